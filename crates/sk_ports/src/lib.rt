@@ -1,13 +1,24 @@
-// A library with one function.
+//! What a run takes from outside and gives back: a folder, sinks, ticks and a gate, as traits, and each in memory.
+//!
+//! A device counts its faults. It answers [`Failed`] only where that count rose, so a caller can tell a fault of the
+//! device from one that a caller made up.
 #![tactic(auto)]
 
-ghost use Rattle.std.specs.Prelude.{◌≡◌};
-ghost use Rattle.sk_ports.specs.Echo.{echo_of};
+mod fault;
+mod folder;
+mod gate;
+mod memory_folder;
+mod memory_sink;
+mod sink;
+mod ticks;
 
-// The `ensures` clause is the contract: what `echo` returns is `echo_of` of its argument, a definition
-// in `specs/Echo.antt`, which a caller's clause can cite too.
-pub fn echo(x: usize) -> usize
-    ensures { result ≡ echo_of x }
-{
-    x
-}
+pub use fault::{Failed, FolderFault};
+pub use folder::Folder;
+pub use gate::{Gate, OpenGate};
+pub use memory_folder::MemoryFolder;
+pub use memory_sink::MemorySink;
+pub use sink::{Sink, write_all};
+pub use ticks::{MemoryTicks, TickSource};
+
+#[cfg(test)]
+mod tests;
