@@ -1,0 +1,9 @@
+use Rattle.std.proofs.Common.{length}
+use Rattle.lua_syntax.specs.Form.{Continues}
+use Rattle.lua_syntax.proofs.parser.read_lines.Given as goal
+
+abbrev pub invariant-loop-text : goal.invariant-loop-text
+invariant-loop-text l = Continues l.source l.texts l.rest
+
+abbrev pub decreases-loop-text : goal.decreases-loop-text
+decreases-loop-text l = length l.rest
