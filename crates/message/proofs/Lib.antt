@@ -1,0 +1,3 @@
+pub mod Bounced
+pub mod Acts
+pub mod Possible

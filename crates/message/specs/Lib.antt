@@ -1,0 +1,12 @@
+pub mod Data
+pub mod Messages
+pub mod Ends
+pub mod Trails
+pub mod Actors
+pub mod Inboxes
+pub mod Registries
+pub mod Clocks
+pub mod Steps
+pub mod Worlds
+pub mod Texts
+pub mod Records
