@@ -1,6 +1,7 @@
 -- The names of files, each once.
-use Rattle.std.proofs.Common.{◌≡◌, ◌∙◌, ◌||◌, ◌&&◌, ◌++◌, ap, refl, sym, ℕ, Bool, true, false, not, List, [], ◌∷◌, is_some, Some, None, cond, true≢false, filter, map, string_bytes, String, Vec, take, length, get_or, ◌<◌, ◌+◌, if◌then◌else◌}
-use Rattle.std.proofs.lemmas.List.{map_more}
+use Rattle.std.proofs.Common.{◌≡◌, ◌∙◌, ◌||◌, ◌&&◌, ◌++◌, ap, refl, sym, ℕ, Bool, true, false, not, List, [], ◌∷◌, is_some, Some, None, cond, true≢false, filter, map, string_bytes, String, Vec, take, length, get_or, drop, ◌<◌, ◌+◌, if◌then◌else◌}
+use Rattle.std.proofs.lemmas.List.{drop_more, map-append, map_more, take-append-drop}
+use Rattle.std.specs.Map.{lookup}
 use Rattle.std.specs.Bool.{Decides, one_answer}
 use Rattle.std.specs.Str.{bytes_eq}
 use Rattle.std.specs.List.{IsDistinct, list_any, AllByRecursion}
@@ -126,3 +127,32 @@ module _ {Z Y : Type 0} where
   names_of-more files i d within is =
       ap names_of (map_more entry_of files i d within ∙ ap (λ x. files_of (take i files) ++ entry_of x ∷ []) (sym is))
       ∙ names_of-push (files_of (take i files)) (string_bytes d.0) d.1.items
+
+lookup_later : (test : List ℕ → Bool) (before after : Files) → lookup test before ≡ None → lookup test (before ++ after) ≡ lookup test after
+lookup_later test [] after h = refl
+lookup_later test (f ∷ fs) after h = go (test f.0) h (lookup_later test fs after)
+  where
+    go : (b : Bool) → cond b (Some f.1) (lookup test fs) ≡ None → (lookup test fs ≡ None → lookup test (fs ++ after) ≡ lookup test after)
+        → cond b (Some f.1) (lookup test (fs ++ after)) ≡ lookup test after
+    go true h more = cc
+    go false h more = more h
+
+module _ {Z Y : Type 0} where
+  -- the first file of this name, where those before it have others
+  pub file_here : (files : List (String Z × Vec ℕ Y)) (i : ℕ) (d : String Z × Vec ℕ Y) (name : List ℕ) → i < length files → d ≡ get_or files i d
+      → file (files_of (take i files)) name ≡ None → bytes_eq name (string_bytes d.0) ≡ true → Some d.1.items ≡ file (files_of files) name
+  file_here files i d name within is before same =
+      let rest = drop_more files i d within ∙ ap (λ x. x ∷ drop (i + 1) files) (sym is) in
+      let whole = sym (take-append-drop i files) ∙ ap (λ xs. take i files ++ xs) rest in
+      ap (λ b. cond b (Some d.1.items) (file (files_of (drop (i + 1) files)) name)) (sym same)
+      ∙ sym (lookup_later (bytes_eq name) (files_of (take i files)) (entry_of d ∷ files_of (drop (i + 1) files)) before)
+      ∙ ap (λ fs. file fs name) (sym (map-append entry_of (take i files) (d ∷ drop (i + 1) files)))
+      ∙ ap (λ fs. file (files_of fs) name) (sym whole)
+
+  -- another file more has another name
+  pub file_not_yet : (files : List (String Z × Vec ℕ Y)) (i : ℕ) (d : String Z × Vec ℕ Y) (name : List ℕ) → i < length files → d ≡ get_or files i d
+      → file (files_of (take i files)) name ≡ None → bytes_eq name (string_bytes d.0) ≡ false → file (files_of (take (i + 1) files)) name ≡ None
+  file_not_yet files i d name within is before other =
+      ap (λ fs. file fs name) (map_more entry_of files i d within ∙ ap (λ x. files_of (take i files) ++ entry_of x ∷ []) (sym is))
+      ∙ lookup_later (bytes_eq name) (files_of (take i files)) (entry_of d ∷ []) before
+      ∙ ap (λ b. cond b (Some d.1.items) None) other

@@ -15,7 +15,7 @@ mod ticks;
 pub use fault::{Failed, FolderFault};
 pub use folder::Folder;
 pub use gate::{Gate, OpenGate};
-pub use memory_folder::MemoryFolder;
+pub use memory_folder::{MemoryFolder, find_file};
 pub use memory_sink::MemorySink;
 pub use sink::{Sink, write_all};
 pub use ticks::{MemoryTicks, TickSource};

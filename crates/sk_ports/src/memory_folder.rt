@@ -52,14 +52,16 @@ impl MemoryFolder {
     }
 }
 
-fn find_file<'a>(files: &'a [(String, Vec<u8>)], name: &str) -> Option<&'a Vec<u8>>
+/// The bytes of the first file of this name.
+pub fn find_file<'a>(files: &'a [(String, Vec<u8>)], name: &str) -> Option<&'a Vec<u8>>
     ensures { option_map (λ bytes. bytes.now.items) result ≡ file (files_of files.now) name.now }
 {
-    let (first, rest) = files.split_first()?;
-    if first.0.as_str() == name {
-        return Some(&first.1);
+    for (other, bytes) in files {
+        if name == other.as_str() {
+            return Some(bytes);
+        }
     }
-    find_file(rest, name)
+    None
 }
 
 fn has_name(names: &[String], name: &str) -> bool
