@@ -1,0 +1,5 @@
+pub mod Lexeme
+pub mod Grammar
+pub mod Table
+pub mod Parts
+pub mod Machine

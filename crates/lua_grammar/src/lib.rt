@@ -1,0 +1,8 @@
+//! The grammar of the Lua profile, and a table that reads it from left to right.
+#![tactic(auto)]
+
+mod symbol;
+mod tree;
+
+pub use symbol::{Effect, Phrase, Place, Scope, Symbol};
+pub use tree::Part;
