@@ -42,7 +42,7 @@ use Rattle.lua_tree.specs.declared.tree.Chunk.{Chunk}
 use Rattle.lua_grammar.specs.Lexeme.{Text, Lexeme, at, Lexemes, operator, unary_operator, level, groups_left, right_least, is_operator, is_suffix, is_comma, is_separator, is_semicolon, is_assign, begins_statement, begins_expr, Not}
 use Rattle.lua_grammar.specs.Grammar.{operand_of, body_of, block_of, branch_of, numeric_of, generic_of, suffixed, self, IsExpr, nil, false_word, true_word, int, text, dots, function, table, prefix, unary_of, chain, IsOperands, no_operand, operand as next_operand, Whole, whole, IsExprs, last, more, IsPrefix, prefixed, IsBase, name, enclosed, IsSuffixes, no_suffix, next_suffix, IsSuffix, index, call, method, IsIndex, bracket, dot, IsArguments, no_argument, arguments, of_table, of_text, IsFields, no_field, last_field, next_field, IsField, key, named, item, IsBody, body, IsParameters, no_parameter, names_only, dots_only, names_dots, IsNames, last_name, next_name, IsTarget, variable, element, IsTargets, last_target, next_target, IsPath, alone, path, IsDots, no_dot, next_dot, IsElses, end_if, else_block, elseif, IsBranch, branch, IsDo, do_end, IsStat, assign, call_stat, break, do_stat, while, repeat, if_stat, numeric, numeric_by, generic, function_stat, method_stat, local_function, local_alone, local, IsBlock, block, IsStats, end_block, semicolon, statement, return, IsResult, no_value, values, IsEnd, plain_end, semicolon_end, IsChunk}
 use Rattle.lua_grammar.specs.Table.{Others, others, becomes_unless, operand, one_more, with_one, in_loop, of_function, is_close, begins_field, is_assign_sign, goes_on_with_names, next_with}
-use Rattle.lua_grammar.specs.Parts.{Parts, effect_of, effects_of, target_of}
+use Rattle.lua_grammar.specs.Parts.{Parts, effect_of, target_of, block as block_at}
 use Rattle.lua_grammar.specs.Machine.{State, taken, feed, going, run}
 use Rattle.lua_grammar.proofs.Steps.{below_at, Below, Below-more, Below-none, Below-unary, level_bounds, left_right, make_pops, tail_pops, chained_pops, suffix_pops, call_pops, more_pops, semicolon_pops, block_pops, tail_takes, chained_takes, unary_takes, separator_takes, run_becomes}
 
@@ -673,3 +673,11 @@ chunk_scope = of_function 0 true
 
 pub chunk_read : {b : Block} {ts : Lexemes} → IsBlock b ts [] → run (x.Block chunk_scope ∷ []) at_start ts ≡ Ok (part.Block b ∷ [])
 chunk_read d = block_read d chunk_scope [] []
+
+abbrev read_block : Result Parts Lexemes → Block
+read_block (Ok v) = block_at v
+read_block (Err r) = block_of [] None
+
+-- a list of lexemes is one block at most
+pub one_block : {a b : Block} {ts : Lexemes} → IsBlock a ts [] → IsBlock b ts [] → a ≡ b
+one_block d f = ap read_block (sym (chunk_read d) ∙ chunk_read f)

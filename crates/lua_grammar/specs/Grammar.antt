@@ -163,8 +163,8 @@ mutual
   -- the name of a `function` statement
   pub data IsPath : Target → Lexemes → Lexemes → Type 0 where
     alone : {n : ℕ} {x : Text} {r : Lexemes} → IsPath (target.Variable x) (at (k.Name x) n ∷ r) r
-    path : {m n : ℕ} {x y : Text} {xs : List Suffix} {ts r : Lexemes} → IsDots xs ts (at (k.Sign sign.Dot) m ∷ at (k.Name y) n ∷ r)
-        → IsPath (target.Element (suffixed (e.Name x) xs) (e.Text y) m) (at (k.Name x) n ∷ ts) r
+    path : {l m n : ℕ} {x y : Text} {xs : List Suffix} {ts r : Lexemes} → IsDots xs ts (at (k.Sign sign.Dot) m ∷ at (k.Name y) n ∷ r)
+        → IsPath (target.Element (suffixed (e.Name x) xs) (e.Text y) m) (at (k.Name x) l ∷ ts) r
 
   -- names after full stops
   pub data IsDots : List Suffix → Lexemes → Lexemes → Type 0 where
