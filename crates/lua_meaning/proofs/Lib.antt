@@ -1,0 +1,4 @@
+pub mod Sound
+pub mod SoundRows
+pub mod SoundSteps
+pub mod Stops

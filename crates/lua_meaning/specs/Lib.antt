@@ -1,0 +1,11 @@
+pub mod State
+pub mod Moves
+pub mod Values
+pub mod Calls
+pub mod Statements
+pub mod Loops
+pub mod Reduce
+pub mod Until
+pub mod Size
+pub mod Laws
+pub mod Worked
