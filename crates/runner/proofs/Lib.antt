@@ -1,0 +1,4 @@
+pub mod LoggerLemmas
+pub mod WorldLemmas
+pub mod ScriptsLemmas
+pub mod RunLemmas

@@ -1,0 +1,5 @@
+pub mod Logger
+pub mod Scripts
+pub mod Words
+pub mod World
+pub mod Run
