@@ -239,7 +239,7 @@ local_begins c s v (t ∷ ts) h f =
     run_becomes (x.LocalMore c) (record { effects = act.LocalAlone ∷ []; symbols = x.Block c ∷ [] }) s v t ts
         (ap (λ b. becomes_unless b (act.LocalAlone ∷ []) (x.Block c ∷ [])) (names_end t.kind h f)) (refl, tt)
 
-result_leaves : (s : List Symbol) (v : Parts) (r : Lexemes) → Not begins_expr r → run (x.ReturnExprs ∷ s) v r ≡ run s v r
+pub result_leaves : (s : List Symbol) (v : Parts) (r : Lexemes) → Not begins_expr r → run (x.ReturnExprs ∷ s) v r ≡ run s v r
 result_leaves s v [] h = refl
 result_leaves s v (t ∷ ts) h = ap (λ o. going (feed_with o) (λ state. run state.stack state.parts ts) (t ∷ ts)) (ap (λ b. becomes_unless (not b) [] (x.Expr 1 ∷ x.MoreExprs ∷ [])) h)
   where

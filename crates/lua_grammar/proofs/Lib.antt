@@ -1,3 +1,4 @@
 pub mod Steps
 pub mod Complete
 pub mod Sound
+pub mod Viable

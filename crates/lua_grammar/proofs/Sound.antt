@@ -882,7 +882,7 @@ back_close_dots n _ = tt
 
 -- ---- a symbol
 
-none_some : {A : Type 0} {a : A} → None ≡ Some a → ⊥
+pub none_some : {A : Type 0} {a : A} → None ≡ Some a → ⊥
 none_some h = cc
 
 not_false : (b : Bool) → (es : List Effect) (new : List Symbol) → becomes_unless (not b) es new ≡ None → b ≡ false
@@ -949,7 +949,7 @@ local_end after v ss result r m =
 
 -- ---- a symbol that becomes others
 
-others_are : (b : Bool) (es : List Effect) (new : List Symbol) (o : Others) → becomes_unless b es new ≡ Some o → (b ≡ false) × (record { effects = es; symbols = new } ≡ o)
+pub others_are : (b : Bool) (es : List Effect) (new : List Symbol) (o : Others) → becomes_unless b es new ≡ Some o → (b ≡ false) × (record { effects = es; symbols = new } ≡ o)
 others_are true es new o h = absurd (none_some h)
 others_are false es new o h = (refl, cc)
 
