@@ -1,10 +1,8 @@
 -- What the grammar has is read.
-use Rattle.std.proofs.Common.{◌≡◌, ℕ, ◌+◌, ◌<◌, ◌≤◌, List, [], ◌∷◌, ◌++◌, append_assoc, Bool, true, false, not, ◌⊎◌, inl, inr, refl, sym, ap, ◌∙◌, arith, subst, Ok, Err, Result, Option, Some, None, reverse, is_some}
+use Rattle.std.proofs.Common.{◌≡◌, ℕ, ◌<◌, ◌≤◌, List, [], ◌∷◌, ◌++◌, append_assoc, Bool, true, false, not, ◌⊎◌, inl, inr, refl, sym, ap, ◌∙◌, arith, subst, Ok, Err, Result, Option, Some, None}
 use Rattle.std.specs.Bool.{⊤}
 use Rattle.std.proofs.lemmas.List.{append-nil, reverse-append, reverse-reverse}
-use Rattle.lua_tree.specs.declared.token.Word.{Word}
 use Rattle.lua_tree.specs.declared.token.Word.TheVariants as word
-use Rattle.lua_tree.specs.declared.token.Sign.{Sign}
 use Rattle.lua_tree.specs.declared.token.Sign.TheVariants as sign
 use Rattle.lua_tree.specs.declared.token.TokenKind.{TokenKind}
 use Rattle.lua_tree.specs.declared.token.TokenKind.TheVariants as k
@@ -19,7 +17,6 @@ use Rattle.lua_tree.specs.declared.tree.Suffix.{Suffix}
 use Rattle.lua_tree.specs.declared.tree.Suffix.TheVariants as suffix
 use Rattle.lua_tree.specs.declared.tree.Suffix.TheVariants.{outs-Index}
 use Rattle.lua_tree.specs.declared.tree.Field.{Field}
-use Rattle.lua_tree.specs.declared.tree.Field.TheVariants as field
 use Rattle.lua_tree.specs.declared.tree.Body.{Body}
 use Rattle.lua_tree.specs.declared.tree.Block.{Block}
 use Rattle.lua_tree.specs.declared.tree.Branch.{Branch}
@@ -27,24 +24,21 @@ use Rattle.lua_tree.specs.declared.tree.Target.{Target}
 use Rattle.lua_tree.specs.declared.tree.Target.TheVariants as target
 use Rattle.lua_tree.specs.declared.tree.Stat.{Stat}
 use Rattle.lua_tree.specs.declared.tree.Stat.TheVariants as stat
-use Rattle.lua_grammar.specs.declared.tree.Part.{Part}
 use Rattle.lua_grammar.specs.declared.tree.Part.TheVariants as part
 use Rattle.lua_grammar.specs.declared.symbol.Phrase.{Phrase}
 use Rattle.lua_grammar.specs.declared.symbol.Phrase.TheVariants as phrase
 use Rattle.lua_grammar.specs.declared.symbol.Place.{Place}
 use Rattle.lua_grammar.specs.declared.symbol.Place.TheVariants as place
 use Rattle.lua_grammar.specs.declared.symbol.Scope.{Scope}
-use Rattle.lua_grammar.specs.declared.symbol.Effect.{Effect}
 use Rattle.lua_grammar.specs.declared.symbol.Effect.TheVariants as act
 use Rattle.lua_grammar.specs.declared.symbol.Symbol.{Symbol}
 use Rattle.lua_grammar.specs.declared.symbol.Symbol.TheVariants as x
-use Rattle.lua_tree.specs.declared.tree.Chunk.{Chunk}
-use Rattle.lua_grammar.specs.Lexeme.{Text, Lexeme, at, Lexemes, operator, unary_operator, level, groups_left, right_least, is_operator, is_suffix, is_comma, is_separator, is_semicolon, is_assign, begins_statement, begins_expr, Not}
-use Rattle.lua_grammar.specs.Grammar.{operand_of, body_of, block_of, branch_of, numeric_of, generic_of, suffixed, self, IsExpr, nil, false_word, true_word, int, text, dots, function, table, prefix, unary_of, chain, IsOperands, no_operand, operand as next_operand, Whole, whole, IsExprs, last, more, IsPrefix, prefixed, IsBase, name, enclosed, IsSuffixes, no_suffix, next_suffix, IsSuffix, index, call, method, IsIndex, bracket, dot, IsArguments, no_argument, arguments, of_table, of_text, IsFields, no_field, last_field, next_field, IsField, key, named, item, IsBody, body, IsParameters, no_parameter, names_only, dots_only, names_dots, IsNames, last_name, next_name, IsTarget, variable, element, IsTargets, last_target, next_target, IsPath, alone, path, IsDots, no_dot, next_dot, IsElses, end_if, else_block, elseif, IsBranch, branch, IsDo, do_end, IsStat, assign, call_stat, break, do_stat, while, repeat, if_stat, numeric, numeric_by, generic, function_stat, method_stat, local_function, local_alone, local, IsBlock, block, IsStats, end_block, semicolon, statement, return, IsResult, no_value, values, IsEnd, plain_end, semicolon_end, IsChunk}
-use Rattle.lua_grammar.specs.Table.{Others, others, becomes_unless, operand, one_more, with_one, in_loop, of_function, is_close, begins_field, is_assign_sign, goes_on_with_names, next_with}
+use Rattle.lua_grammar.specs.Lexeme.{Text, at, Lexemes, operator, unary_operator, level, groups_left, right_least, is_comma, is_assign, begins_expr, Not}
+use Rattle.lua_grammar.specs.Grammar.{operand_of, block_of, branch_of, suffixed, self, IsExpr, nil, false_word, true_word, int, text, dots, function, table, prefix, unary_of, chain, IsOperands, no_operand, operand as next_operand, Whole, whole, IsExprs, last, more, IsPrefix, prefixed, IsBase, name, enclosed, IsSuffixes, no_suffix, next_suffix, IsSuffix, index, call, method, IsIndex, bracket, dot, IsArguments, no_argument, arguments, of_table, of_text, IsFields, no_field, last_field, next_field, IsField, key, named, item, IsBody, body, IsParameters, no_parameter, names_only, dots_only, names_dots, IsNames, last_name, next_name, IsTarget, variable, element, IsTargets, last_target, next_target, IsPath, alone, path, IsDots, no_dot, next_dot, IsElses, end_if, else_block, elseif, branch, IsDo, do_end, IsStat, assign, call_stat, break, do_stat, while, repeat, if_stat, numeric, numeric_by, generic, function_stat, method_stat, local_function, local_alone, local, IsBlock, block, IsStats, end_block, semicolon, statement, return, IsResult, no_value, values, IsEnd, plain_end, semicolon_end}
+use Rattle.lua_grammar.specs.Table.{Others, becomes_unless, operand, one_more, with_one, in_loop, of_function, is_close, begins_field, goes_on_with_names, next_with}
 use Rattle.lua_grammar.specs.Parts.{Parts, effect_of, target_of, block as block_at}
 use Rattle.lua_grammar.specs.Machine.{State, taken, feed, going, run}
-use Rattle.lua_grammar.proofs.Steps.{below_at, Below, Below-more, Below-none, Below-unary, level_bounds, left_right, make_pops, tail_pops, chained_pops, suffix_pops, call_pops, more_pops, semicolon_pops, block_pops, tail_takes, chained_takes, unary_takes, separator_takes, run_becomes}
+use Rattle.lua_grammar.proofs.Steps.{below_at, Below, Below-more, Below-none, Below-unary, level_bounds, make_pops, tail_pops, chained_pops, suffix_pops, call_pops, more_pops, semicolon_pops, block_pops, tail_takes, chained_takes, unary_takes, separator_takes, run_becomes}
 
 -- ---- the target that a prefix is
 
@@ -191,13 +185,13 @@ arguments_begin : (s : List Symbol) (v : Parts) (ts : Lexemes) → Begins ts →
 arguments_begin s v [] h = absurd h
 arguments_begin s v (t ∷ ts) h =
     run_becomes x.Arguments (record { effects = []; symbols = x.Expr 1 ∷ x.MoreArguments ∷ [] }) s v t ts
-        (ap (λ b. becomes_unless b [] (x.Expr 1 ∷ x.MoreArguments ∷ [])) (close_begins t.kind h)) (refl, (refl, tt))
+    (ap (λ b. becomes_unless b [] (x.Expr 1 ∷ x.MoreArguments ∷ [])) (close_begins t.kind h)) (refl, (refl, tt))
 
 result_begins : (s : List Symbol) (v : Parts) (ts : Lexemes) → Begins ts → run (x.ReturnExprs ∷ s) v ts ≡ run (x.Expr 1 ∷ x.MoreExprs ∷ s) v ts
 result_begins s v [] h = absurd h
 result_begins s v (t ∷ ts) h =
     run_becomes x.ReturnExprs (record { effects = []; symbols = x.Expr 1 ∷ x.MoreExprs ∷ [] }) s v t ts
-        (ap (λ b. becomes_unless (not b) [] (x.Expr 1 ∷ x.MoreExprs ∷ [])) h) (refl, (refl, tt))
+    (ap (λ b. becomes_unless (not b) [] (x.Expr 1 ∷ x.MoreExprs ∷ [])) h) (refl, (refl, tt))
 
 abbrev item_symbols : List Symbol
 item_symbols = x.Make act.ItemField ∷ x.MoreFields ∷ []
@@ -207,7 +201,7 @@ name_begins : (s : List Symbol) (v : Parts) (t : Text) (ts : Lexemes) → Not is
 name_begins s v t [] h = refl
 name_begins s v t (u ∷ ts) h =
     run_becomes x.NameField (record { effects = act.NameVariable ∷ []; symbols = x.Suffix place.Expression phrase.Var ∷ x.Tail 1 12 ∷ item_symbols }) s (part.Name t ∷ v) u ts
-        (ap (λ b. becomes_unless b (act.NameVariable ∷ []) (x.Suffix place.Expression phrase.Var ∷ x.Tail 1 12 ∷ item_symbols)) h) (refl, (refl, (refl, (refl, tt))))
+    (ap (λ b. becomes_unless b (act.NameVariable ∷ []) (x.Suffix place.Expression phrase.Var ∷ x.Tail 1 12 ∷ item_symbols)) h) (refl, (refl, (refl, (refl, tt))))
 
 field_begins : (kind : TokenKind) → begins_expr kind ≡ true → (begins_field kind ≡ false) ⊎ ((t : Text) × (kind ≡ k.Name t))
 field_begins (k.Name t) h = inr (t, refl)
@@ -222,7 +216,7 @@ fields_begin s v (t ∷ ts) h f = on (field_begins t.kind h)
     on : (begins_field t.kind ≡ false) ⊎ ((name : Text) × (t.kind ≡ k.Name name)) → run (x.Fields ∷ s) v (t ∷ ts) ≡ run (x.Expr 1 ∷ item_symbols ++ s) v (t ∷ ts)
     on (inl g) =
         run_becomes x.Fields (record { effects = []; symbols = x.Expr 1 ∷ item_symbols }) s v t ts
-            (ap (λ b. becomes_unless b [] (x.Expr 1 ∷ item_symbols)) g) (refl, (refl, (refl, tt)))
+        (ap (λ b. becomes_unless b [] (x.Expr 1 ∷ item_symbols)) g) (refl, (refl, (refl, tt)))
     on (inr g) =
         let named : Not is_assign ts = subst (λ kind. name_then kind ts) g.1 f in
         subst (λ kind. run (x.Fields ∷ s) v (at kind t.line ∷ ts) ≡ run (x.Expr 1 ∷ item_symbols ++ s) v (at kind t.line ∷ ts)) (sym g.1) (name_begins s v g.0 ts named)
@@ -237,7 +231,7 @@ pub local_begins : (c : Scope) (s : List Symbol) (v : Parts) (r : Lexemes) → N
 local_begins c s v [] h f = refl
 local_begins c s v (t ∷ ts) h f =
     run_becomes (x.LocalMore c) (record { effects = act.LocalAlone ∷ []; symbols = x.Block c ∷ [] }) s v t ts
-        (ap (λ b. becomes_unless b (act.LocalAlone ∷ []) (x.Block c ∷ [])) (names_end t.kind h f)) (refl, tt)
+    (ap (λ b. becomes_unless b (act.LocalAlone ∷ []) (x.Block c ∷ [])) (names_end t.kind h f)) (refl, tt)
 
 pub result_leaves : (s : List Symbol) (v : Parts) (r : Lexemes) → Not begins_expr r → run (x.ReturnExprs ∷ s) v r ≡ run s v r
 result_leaves s v [] h = refl
@@ -364,7 +358,7 @@ operand_stack o s = x.Make (act.AddOperand o) ∷ x.Chained (level o) ∷ s
 -- after an operand that was read
 operand_read : (lb : ℕ) (b : Expr) (ts r : Lexemes) (o : BinaryOp) (n : ℕ) (acc : List Operand) (s : List Symbol) (v : Parts) → Below (right_least o) r
     → run (x.Expr (right_least o) ∷ operand_stack o s) (part.Line n ∷ part.Operands acc ∷ v) ts
-        ≡ run (x.Tail (right_least o) lb ∷ operand_stack o s) (part.Expr b ∷ part.Line n ∷ part.Operands acc ∷ v) r
+    ≡ run (x.Tail (right_least o) lb ∷ operand_stack o s) (part.Expr b ∷ part.Line n ∷ part.Operands acc ∷ v) r
     → run (operand o ++ s) (part.Line n ∷ part.Operands acc ∷ v) ts ≡ run (x.Chained (level o) ∷ s) (part.Operands (acc ++ operand_of o n b ∷ []) ∷ v) r
 operand_read lb b ts r o n acc s v f read =
     read
@@ -556,7 +550,7 @@ mutual
 
   elses_read : {bs : List Branch} {other : Option Block} {ts r : Lexemes} → IsElses bs other ts r → (c : Scope) (a : Expr) (b : Block) (acc : List Branch) (s : List Symbol) (ss : List Stat) (v : Parts)
       → run (x.Else c ∷ s) (part.Block b ∷ part.Expr a ∷ part.Branches acc ∷ part.Stats ss ∷ v) ts
-          ≡ run s (part.Stats (ss ++ stat.If (acc ++ branch_of a b ∷ bs) other ∷ []) ∷ v) r
+      ≡ run s (part.Stats (ss ++ stat.If (acc ++ branch_of a b ∷ bs) other ∷ []) ∷ v) r
   elses_read end_if c a b acc s ss v = refl
   elses_read {r = r} (else_block {b = other} d) c a b acc s ss v =
       block_read d c (x.End ∷ x.Make act.IfElse ∷ s) (part.Branches (acc ++ branch_of a b ∷ []) ∷ part.Stats ss ∷ v)
@@ -622,14 +616,14 @@ mutual
   stat_read {r = r} (function_stat {v = t} {b = b} {mid = mid} d f) c s acc v =
       path_read d (x.Make act.AssignFunction ∷ x.Block c ∷ s) (part.Stats acc ∷ v)
       ∙ body_read f x.FunctionPath 0 (part.Suffixes (path_suffixes d) ∷ part.Expr (path_base d) ∷ part.Stats acc ∷ v) (part.Targets (t ∷ []) ∷ part.Stats acc ∷ v)
-          (x.Make act.AssignFunction ∷ x.Block c ∷ s)
-          (λ m s ts. ap (λ (t : Target). run (x.FirstParameter 0 ∷ s) (part.Names [] ∷ part.Targets (t ∷ []) ∷ part.Stats acc ∷ v) ts) (end_path d))
+      (x.Make act.AssignFunction ∷ x.Block c ∷ s)
+      (λ m s ts. ap (λ (t : Target). run (x.FirstParameter 0 ∷ s) (part.Names [] ∷ part.Targets (t ∷ []) ∷ part.Stats acc ∷ v) ts) (end_path d))
       ∙ make_pops act.AssignFunction (x.Block c ∷ s) (part.Body b ∷ part.Targets (t ∷ []) ∷ part.Stats acc ∷ v) r
   stat_read {r = r} (method_stat {l = l} {x = z} {y = y} {xs = ys} {b = b} d f) c s acc v =
       dots_read d [] (x.Make act.AssignFunction ∷ x.Block c ∷ s) (part.Expr (e.Name z) ∷ part.Stats acc ∷ v)
       ∙ body_read f x.MethodParameters 1 (part.Suffixes (ys ++ suffix.Index (e.Text y) l ∷ []) ∷ part.Expr (e.Name z) ∷ part.Stats acc ∷ v)
-          (part.Targets (target.Element (suffixed (e.Name z) ys) (e.Text y) l ∷ []) ∷ part.Stats acc ∷ v) (x.Make act.AssignFunction ∷ x.Block c ∷ s)
-          (λ m s ts. ap (λ (t : Target). run (x.FirstParameter 1 ∷ s) (part.Names (self ∷ []) ∷ part.Targets (t ∷ []) ∷ part.Stats acc ∷ v) ts) (element_target (e.Name z) (e.Text y) l ys))
+      (part.Targets (target.Element (suffixed (e.Name z) ys) (e.Text y) l ∷ []) ∷ part.Stats acc ∷ v) (x.Make act.AssignFunction ∷ x.Block c ∷ s)
+      (λ m s ts. ap (λ (t : Target). run (x.FirstParameter 1 ∷ s) (part.Names (self ∷ []) ∷ part.Targets (t ∷ []) ∷ part.Stats acc ∷ v) ts) (element_target (e.Name z) (e.Text y) l ys))
       ∙ make_pops act.AssignFunction (x.Block c ∷ s) (part.Body b ∷ part.Targets (target.Element (suffixed (e.Name z) ys) (e.Text y) l ∷ []) ∷ part.Stats acc ∷ v) r
   stat_read {r = r} (local_function {x = y} {b = b} d) c s acc v =
       body_read d x.Parameters 0 (part.Name y ∷ part.Stats acc ∷ v) (part.Name y ∷ part.Stats acc ∷ v) (x.Make act.LocalFunction ∷ x.Block (with_one c) ∷ s) (λ m s ts. refl)

@@ -1,17 +1,14 @@
 -- What is read is in the grammar. Each entry of the table is a rule of it.
-use Rattle.std.proofs.Common.{◌≡◌, ℕ, ◌+◌, ◌<◌, ◌≤◌, List, [], ◌∷◌, ◌++◌, append_assoc, Bool, true, false, not, nat_le, nat_lt, ◌==◌, if◌then◌else◌, ◌⊎◌, inl, inr, refl, sym, ap, ◌∙◌, arith, subst, Ok, Err, Result, Option, Some, None, is_some}
+use Rattle.std.proofs.Common.{◌≡◌, ℕ, ◌<◌, ◌≤◌, List, [], ◌∷◌, ◌++◌, append_assoc, Bool, true, false, not, nat_le, nat_lt, ◌==◌, if◌then◌else◌, refl, sym, ap, ◌∙◌, arith, subst, Ok, Err, Result, Option, Some, None, is_some}
 use Rattle.std.specs.Bool.{⊤}
 use Rattle.std.proofs.lemmas.List.{append-nil}
 use Rattle.std.proofs.lemmas.Bool.Decides.{nat_tests}
-use Rattle.lua_tree.specs.declared.token.Word.{Word}
 use Rattle.lua_tree.specs.declared.token.Word.TheVariants as word
-use Rattle.lua_tree.specs.declared.token.Sign.{Sign}
 use Rattle.lua_tree.specs.declared.token.Sign.TheVariants as sign
 use Rattle.lua_tree.specs.declared.token.TokenKind.{TokenKind}
 use Rattle.lua_tree.specs.declared.token.TokenKind.TheVariants as k
 use Rattle.lua_tree.specs.declared.tree.UnaryOp.{UnaryOp}
 use Rattle.lua_tree.specs.declared.tree.BinaryOp.{BinaryOp}
-use Rattle.lua_tree.specs.declared.tree.BinaryOp.TheVariants as binary
 use Rattle.lua_tree.specs.declared.tree.Expr.{Expr}
 use Rattle.lua_tree.specs.declared.tree.Expr.TheVariants as e
 use Rattle.lua_tree.specs.declared.tree.Expr.TheVariants.{outs-Name}
@@ -28,7 +25,6 @@ use Rattle.lua_tree.specs.declared.tree.Target.{Target}
 use Rattle.lua_tree.specs.declared.tree.Target.TheVariants as target
 use Rattle.lua_tree.specs.declared.tree.Stat.{Stat}
 use Rattle.lua_tree.specs.declared.tree.Stat.TheVariants as stat
-use Rattle.lua_grammar.specs.declared.tree.Part.{Part}
 use Rattle.lua_grammar.specs.declared.tree.Part.TheVariants as part
 use Rattle.lua_grammar.specs.declared.symbol.Phrase.{Phrase}
 use Rattle.lua_grammar.specs.declared.symbol.Phrase.TheVariants as phrase
@@ -39,9 +35,9 @@ use Rattle.lua_grammar.specs.declared.symbol.Effect.{Effect}
 use Rattle.lua_grammar.specs.declared.symbol.Effect.TheVariants as act
 use Rattle.lua_grammar.specs.declared.symbol.Symbol.{Symbol}
 use Rattle.lua_grammar.specs.declared.symbol.Symbol.TheVariants as x
-use Rattle.lua_grammar.specs.Lexeme.{Text, Lexeme, at, Lexemes, operator, unary_operator, level, groups_left, right_least, is_operator, is_suffix, is_comma, is_separator, is_semicolon, is_assign, begins_statement, begins_expr, Not}
-use Rattle.lua_grammar.specs.Grammar.{operand_of, body_of, block_of, branch_of, numeric_of, generic_of, suffixed, self, IsExpr, nil, false_word, true_word, int, text, dots, function, table, prefix, unary_of, chain, IsOperands, no_operand, operand as next_operand, Whole, whole, IsExprs, last, more, IsPrefix, prefixed, IsBase, name, enclosed, IsSuffixes, no_suffix, next_suffix, IsSuffix, index, call, method, IsIndex, bracket, dot, IsArguments, no_argument, arguments, of_table, of_text, IsFields, no_field, last_field, next_field, IsField, key, named, item, IsBody, body, IsParameters, no_parameter, names_only, dots_only, names_dots, IsNames, last_name, next_name, IsTarget, variable, element, IsTargets, last_target, next_target, IsPath, alone, path, IsDots, no_dot, next_dot, IsElses, end_if, else_block, elseif, IsBranch, branch, IsDo, do_end, IsStat, assign, call_stat, break, do_stat, while, repeat, if_stat, numeric, numeric_by, generic, function_stat, method_stat, local_function, local_alone, local, IsBlock, block, IsStats, end_block, semicolon, statement, return, IsResult, no_value, values, IsEnd, plain_end, semicolon_end, IsChunk}
-use Rattle.lua_grammar.specs.Table.{Act, shift, pop, refuse, Step, plain, after_effects, over, acts_of, next, next_with, act_of, last_of, Others, others, becomes_unless, operand, one_more, with_one, in_loop, of_function, function_block, is_close, begins_field, is_assign_sign, goes_on_with_names, at_expr, at_tail, at_chained, at_suffix, at_phrase, at_block, at_more_exprs, at_semicolon, at_more_fields, at_fields, at_name_field, at_arguments, at_more_arguments, at_method_arguments, at_name, at_target, at_then, at_else, at_do, at_for_names, at_for_first, at_for_step, at_local, at_local_more, at_function_path, at_parameters, at_method_parameters, at_next_parameter, at_first_parameter, at_more_parameters, at_close_dots, at_close_index, at_close_paren, at_close_key, at_assign, at_comma, at_until, at_end}
+use Rattle.lua_grammar.specs.Lexeme.{Text, Lexeme, at, Lexemes, operator, unary_operator, level, groups_left, is_operator, is_suffix, is_comma, is_separator, is_assign, begins_expr, Not}
+use Rattle.lua_grammar.specs.Grammar.{operand_of, body_of, block_of, branch_of, numeric_of, generic_of, suffixed, self, IsExpr, nil, false_word, true_word, int, text, dots, function, table, prefix, unary_of, chain, IsOperands, no_operand, operand as next_operand, Whole, whole, IsExprs, last, more, IsPrefix, prefixed, name, enclosed, IsSuffixes, no_suffix, next_suffix, IsSuffix, index, call, method, IsIndex, bracket, dot, IsArguments, no_argument, arguments, of_table, of_text, IsFields, no_field, last_field, next_field, IsField, key, named, item, IsBody, body, IsParameters, no_parameter, names_only, dots_only, names_dots, IsNames, last_name, next_name, IsTarget, variable, element, IsTargets, last_target, next_target, IsPath, alone, path, IsDots, no_dot, next_dot, IsElses, end_if, else_block, elseif, branch, IsDo, do_end, IsStat, assign, call_stat, break, do_stat, while, repeat, if_stat, numeric, numeric_by, generic, function_stat, method_stat, local_function, local_alone, local, IsBlock, block, IsStats, end_block, semicolon, statement, return, IsResult, no_value, values, IsEnd, plain_end, semicolon_end}
+use Rattle.lua_grammar.specs.Table.{Act, shift, pop, refuse, next_with, act_of, last_of, Others, others, becomes_unless, operand, with_one, function_block, is_close, begins_field, is_assign_sign, goes_on_with_names, at_expr, at_tail, at_chained, at_suffix, at_phrase, at_block, at_more_exprs, at_semicolon, at_more_fields, at_fields, at_name_field, at_arguments, at_more_arguments, at_method_arguments, at_name, at_target, at_then, at_else, at_do, at_for_names, at_for_first, at_for_step, at_local, at_local_more, at_function_path, at_parameters, at_method_parameters, at_next_parameter, at_first_parameter, at_more_parameters, at_close_dots, at_close_index, at_close_paren, at_close_key, at_assign, at_comma, at_until, at_end}
 use Rattle.lua_grammar.specs.Parts.{Parts, effect_of, effects_of, target_of, add_stat, add_suffix, below, line, name as name_at, names, expr, exprs, suffixes, operands, fields, targets, branches, stats, block as block_at, first}
 use Rattle.lua_grammar.specs.Machine.{State, fed, taken, feed, closing, finish, ending, going, run}
 use Rattle.lua_grammar.proofs.Steps.{below_at, Below, level_bounds, Flat, feed_becomes}
@@ -346,7 +342,7 @@ back_operator : (p q : ℕ) (kind : TokenKind) (o : BinaryOp) (b c : Bool) → o
     → Leads (if b then (if c then shift (act.OpenOperands ∷ act.Line ∷ []) (operand o ++ x.Tail p (level o) ∷ []) else refuse) else pop []) (Means (x.Tail p q)) kind
 back_operator p q kind o true true f h i = λ n after v ts m a u t0 ev d le.
     m.6.3 (e.Chain a (operand_of o n m.1 ∷ m.6.0)) u t0 (ap (λ (v : Parts). part.Expr (e.Chain (expr v) (operand_of o n m.1 ∷ m.6.0)) ∷ below v) ev)
-        (chain f d (lt_of (level o) q i) m.3 (m.4 (level_bounds o).4) m.6.2) (λ j. le_of p (level o) h)
+    (chain f d (lt_of (level o) q i) m.3 (m.4 (level_bounds o).4) m.6.2) (λ j. le_of p (level o) h)
 back_operator p q kind o true false f h i = tt
 back_operator p q kind o false c f h i = λ n after v ts m a u t0 ev d le.
     (q, a, at kind n ∷ ts, d, le, subst (below_at p) (sym f) (lt_of_not p (level o) h), subst (λ v. after v (at kind n ∷ ts)) ev m)
@@ -391,16 +387,14 @@ back_phrase place.Statement phrase.Var (k.Sign sign.Comma) h = λ n after v ts m
     let end : Parts → Target → Type 0 = λ v t. after (add_stat (stat.Assign (t ∷ m.0) m.1) (below (below v))) m.4 in
     (stat.Assign (mark.0 ∷ m.0) m.1, m.4, assign (next_target mark.1 m.5) m.6, subst (end (part.Suffixes xs ∷ part.Expr a ∷ u)) mark.2 (subst (λ (v : Parts). end v (target_of (expr (below v)) (suffixes v))) ev m.7))
 back_phrase place.Statement phrase.Var (k.Sign sign.Assign) h = λ n after v ts m a xs u t0 ev d mark.
-    let end : Parts → Target → Type 0 = λ v t. after (add_stat (stat.Assign (t ∷ []) (m.1 ∷ m.6.0)) (below (below v))) m.6.1 in
-    (
+    let end : Parts → Target → Type 0 = λ v t. after (add_stat (stat.Assign (t ∷ []) (m.1 ∷ m.6.0)) (below (below v))) m.6.1 in (
       stat.Assign (mark.0 ∷ []) (m.1 ∷ m.6.0),
       m.6.1,
       assign (last_target mark.1) (joined (ended m.3 m.5) m.6.2),
       subst (end (part.Suffixes xs ∷ part.Expr a ∷ u)) mark.2 (subst (λ (v : Parts). end v (target_of (expr (below v)) (suffixes v))) ev m.6.3),
     )
 back_phrase place.Target phrase.Var (k.Sign sign.Comma) h = λ n after v ts m a xs u t0 ev d mark.
-    let end : Parts → Target → Type 0 = λ v t. after (add_stat (stat.Assign ((targets (below (below v)) ++ t ∷ []) ++ m.0) m.1) (below (below (below v)))) m.4 in
-    (
+    let end : Parts → Target → Type 0 = λ v t. after (add_stat (stat.Assign ((targets (below (below v)) ++ t ∷ []) ++ m.0) m.1) (below (below (below v)))) m.4 in (
       mark.0 ∷ m.0,
       m.1,
       m.2,
@@ -412,8 +406,7 @@ back_phrase place.Target phrase.Var (k.Sign sign.Comma) h = λ n after v ts m a 
           (subst (end (part.Suffixes xs ∷ part.Expr a ∷ u)) mark.2 (subst (λ (v : Parts). end v (target_of (expr (below v)) (suffixes v))) ev m.7)),
     )
 back_phrase place.Target phrase.Var (k.Sign sign.Assign) h = λ n after v ts m a xs u t0 ev d mark.
-    let end : Parts → Target → Type 0 = λ v t. after (add_stat (stat.Assign (targets (below (below v)) ++ t ∷ []) (m.1 ∷ m.6.0)) (below (below (below v)))) m.6.1 in
-    (
+    let end : Parts → Target → Type 0 = λ v t. after (add_stat (stat.Assign (targets (below (below v)) ++ t ∷ []) (m.1 ∷ m.6.0)) (below (below (below v)))) m.6.1 in (
       mark.0 ∷ [],
       m.1 ∷ m.6.0,
       n,
@@ -532,8 +525,7 @@ back_name_field : (kind : TokenKind) → Leads (at_name_field kind) (Means x.Nam
 back_name_field (k.Sign sign.Assign) = λ n after v ts m y xs u i ev.
     let f : Parts → Field = λ v. field.Key (e.Text (name_at v)) m.1 in
     let g = m.6 (fields (below v) ++ f v ∷ []) (below (below v)) refl in
-    let end : Parts → Type 0 = λ v. after (part.Fields (fields (below v) ++ f v ∷ g.0) ∷ below (below v)) g.1 in
-    (
+    let end : Parts → Type 0 = λ v. after (part.Fields (fields (below v) ++ f v ∷ g.0) ∷ below (below v)) g.1 in (
       field.Key (e.Text y) m.1,
       g.0,
       m.2,
@@ -606,8 +598,7 @@ back_block c (k.Word word.For) = λ n after v ts m. stated after v (at (k.Word w
 back_block c (k.Word word.Function) = λ n after v ts m. stated after v (at (k.Word word.Function) n ∷ ts) (stat.Assign (m.0 ∷ []) (e.Function m.1 ∷ []), m.2, named_function m.3, m.4)
 back_block c (k.Word word.Local) = λ n after v ts m. m n
 back_block c (k.Word word.Return) = λ n after v ts m.
-    let g = m [] v refl in
-    (
+    let g = m [] v refl in (
       [],
       Some g.0,
       g.3.0,
@@ -639,8 +630,7 @@ back_else : (c : Scope) (kind : TokenKind) → Leads (at_else c kind) (Means (x.
 back_else c (k.Word word.Elseif) = λ n after v ts m.
     let g = m.6.6 in
     let h = branch (subst (λ r. Whole m.1 ts r) m.6.4 (ended m.3 m.5)) m.6.5 in
-    let first = branch_of (expr (below v)) (block_at v) in
-    (
+    let first = branch_of (expr (below v)) (block_at v) in (
       branch_of m.1 m.6.2 ∷ g.0,
       g.1,
       g.2,
@@ -682,8 +672,7 @@ back_for_name c _ = tt
 in_loops : (after : After) (v : Parts) (c : Scope) (n : ℕ) (ts : Lexemes) → MeanAll (x.Expr 1 ∷ x.MoreExprs ∷ x.Do c ∷ x.Make act.Generic ∷ []) after (part.Exprs [] ∷ v) ts
     → Loops after v (λ xs r. IsMoreNames xs (at (k.Word word.In) n ∷ ts) r)
 in_loops after v c n ts m =
-    let g = m.6.3 in
-    (
+    let g = m.6.3 in (
       [],
       m.1 ∷ m.6.0,
       g.0,
@@ -704,19 +693,17 @@ back_for_names c _ = tt
 
 first_looped : (after : After) (v : Parts) (ts : Lexemes) → Loops after v (λ xs r. IsMoreNames xs ts r) → (y : Text) (u : Parts) (m : ℕ) → v ≡ part.Names (y ∷ []) ∷ u
     → (a : Stat) × (r : Lexemes) × IsStat a (at (k.Word word.For) (line u) ∷ at (k.Name y) m ∷ ts) r × after (add_stat a (below u)) r
-first_looped after v ts m y u i ev =
-    (
-      stat.Generic (generic_of (y ∷ m.0) m.1 m.2 (line u)),
-      m.6,
-      generic (named_list m.7) m.8 m.9,
-      subst (λ (v : Parts). after (add_stat (stat.Generic (generic_of (names v ++ m.0) m.1 m.2 (line (below v)))) (below (below v))) m.6) ev m.10,
-    )
+first_looped after v ts m y u i ev = (
+  stat.Generic (generic_of (y ∷ m.0) m.1 m.2 (line u)),
+  m.6,
+  generic (named_list m.7) m.8 m.9,
+  subst (λ (v : Parts). after (add_stat (stat.Generic (generic_of (names v ++ m.0) m.1 m.2 (line (below v)))) (below (below v))) m.6) ev m.10,
+)
 
 back_for_first : (c : Scope) (kind : TokenKind) → Leads (at_for_first c kind) (Means (x.ForFirst c)) kind
 back_for_first c (k.Sign sign.Assign) = λ n after v ts m y u i ev.
     let g = m.6.3 in
-    let h = g.6 in
-    (
+    let h = g.6 in (
       stat.Numeric (numeric_of y m.1 g.1 h.0 h.1 (line u)),
       h.2,
       stepped (subst (λ r. Whole m.1 ts r) m.6.2 (ended m.3 m.5)) (ended g.3 g.5) h.3,
@@ -762,8 +749,7 @@ back_local_more : (c : Scope) (kind : TokenKind) → Leads (at_local_more c kind
 back_local_more c (k.Sign sign.Comma) = λ n after v ts m. (m.0, m.1, m.2, m.3, m.4, m.5, m.6, comma_names m.7, m.8, m.9, m.10)
 back_local_more c (k.Sign sign.Assign) = λ n after v ts m.
     let g = m.6.3 in
-    let es = m.1 ∷ m.6.0 in
-    (
+    let es = m.1 ∷ m.6.0 in (
       [],
       es,
       at (k.Sign sign.Assign) n ∷ ts,
@@ -794,12 +780,11 @@ back_function_path : (kind : TokenKind) → Leads (at_function_path kind) (Means
 back_function_path (k.Sign sign.Dot) = λ n after v ts m y xs u t0 i ev d mark.
     let d' = subst (λ ts. IsDots xs t0 (at (k.Sign sign.Dot) n ∷ ts)) m.3 d in
     m.4 y (xs ++ suffix.Index (e.Text m.0) n ∷ []) u t0 i (ap (add_suffix (suffix.Index (e.Text m.0) n)) ev) (dots_snoc d')
-        (target.Element (suffixed (e.Name y) xs) (e.Text m.0) n, path d', element_target (e.Name y) (e.Text m.0) n xs)
+    (target.Element (suffixed (e.Name y) xs) (e.Text m.0) n, path d', element_target (e.Name y) (e.Text m.0) n xs)
 back_function_path (k.Sign sign.Colon) = λ n after v ts m y xs u t0 i ev d mark.
     let d' = subst (λ ts. IsDots xs t0 (at (k.Sign sign.Colon) n ∷ ts)) m.3 d in
     let t = target.Element (suffixed (e.Name y) xs) (e.Text m.0) n in
-    let end : Parts → Type 0 = λ v. after (part.Body m.4.0 ∷ part.Targets (target_of (expr (below v)) (suffixes v) ∷ []) ∷ below (below v)) m.4.1 in
-    (
+    let end : Parts → Type 0 = λ v. after (part.Body m.4.0 ∷ part.Targets (target_of (expr (below v)) (suffixes v) ∷ []) ∷ below (below v)) m.4.1 in (
       t,
       m.4.0,
       m.4.1,
@@ -809,8 +794,7 @@ back_function_path (k.Sign sign.Colon) = λ n after v ts m y xs u t0 i ev d mark
     )
 back_function_path (k.Sign sign.OpenParen) = λ n after v ts m y xs u t0 i ev d mark.
     let b = body_of m.0 m.1 m.3 in
-    let end : Parts → Type 0 = λ v. after (part.Body b ∷ part.Targets (target_of (expr (below v)) (suffixes v) ∷ []) ∷ below (below v)) m.5 in
-    (
+    let end : Parts → Type 0 = λ v. after (part.Body b ∷ part.Targets (target_of (expr (below v)) (suffixes v) ∷ []) ∷ below (below v)) m.5 in (
       mark.0,
       b,
       m.5,
@@ -850,7 +834,7 @@ parametered after v t n ts m = (
 close_dots : {xs : List Text} {d : Bool} {m n : ℕ} {ts r : Lexemes} → xs ≡ [] → d ≡ true → ts ≡ at (k.Sign sign.CloseParen) m ∷ r → IsNext xs d (at (k.Sign sign.Dots) n ∷ ts) r
 close_dots {xs = xs} {d = d} {m = m} {n = n} {ts = ts} {r = r} e f g =
     subst (λ ts. IsNext xs d (at (k.Sign sign.Dots) n ∷ ts) r) (sym g) (subst (λ d. IsNext xs d (at (k.Sign sign.Dots) n ∷ at (k.Sign sign.CloseParen) m ∷ r) r) (sym f)
-        (subst (λ xs. IsNext xs true (at (k.Sign sign.Dots) n ∷ at (k.Sign sign.CloseParen) m ∷ r) r) (sym e) dots_end))
+    (subst (λ xs. IsNext xs true (at (k.Sign sign.Dots) n ∷ at (k.Sign sign.CloseParen) m ∷ r) r) (sym e) dots_end))
 
 back_next_parameter : (n : ℕ) (kind : TokenKind) → Leads (at_next_parameter n kind) (Means (x.NextParameter n)) kind
 back_next_parameter n (k.Sign sign.Dots) = λ i after v ts m. (m.0, m.1, m.2, m.3, m.4, m.5, close_dots m.6.1 m.6.2 m.6.3, m.7, m.8)
@@ -945,7 +929,7 @@ local_end : (after : After) (v : Parts) (ss : List Stat) (result : Option (List 
     → after (part.Block (block_of (stats (below v) ++ stat.Local (names v ++ []) [] ∷ ss) result) ∷ below (below v)) r
 local_end after v ss result r m =
     subst (λ xs. after (part.Block (block_of (stats (below v) ++ stat.Local xs [] ∷ ss) result) ∷ below (below v)) r) (sym (append-nil (names v)))
-        (subst (λ all. after (part.Block (block_of all result) ∷ below (below v)) r) (append_assoc (stats (below v)) (stat.Local (names v) [] ∷ []) ss) m)
+    (subst (λ all. after (part.Block (block_of all result) ∷ below (below v)) r) (append_assoc (stats (below v)) (stat.Local (names v) [] ∷ []) ss) m)
 
 -- ---- a symbol that becomes others
 
@@ -975,53 +959,51 @@ stand y kind es new o e h = subst (λ (o : Others). Stand y o.effects o.symbols 
 back_others : (y : Symbol) (kind : TokenKind) (o : Others) → others y kind ≡ Some o → Stand y o.effects o.symbols kind
 back_others x.Arguments kind o h =
     stand x.Arguments kind _ _ o (others_are (is_close kind) _ _ o h).1
-        (λ n after v ts m xs u ev.
-            (m.1 ∷ m.6.0, m.6.1, in_parens (ended m.3 m.5) m.6.2, subst (λ (v : Parts). after (part.Exprs (exprs v ++ m.1 ∷ m.6.0) ∷ below v) m.6.1) ev m.6.3))
+    (λ n after v ts m xs u ev.
+    (m.1 ∷ m.6.0, m.6.1, in_parens (ended m.3 m.5) m.6.2, subst (λ (v : Parts). after (part.Exprs (exprs v ++ m.1 ∷ m.6.0) ∷ below v) m.6.1) ev m.6.3))
 back_others x.Fields kind o h =
     stand x.Fields kind _ _ o (others_are (begins_field kind) _ _ o h).1
-        (λ n after v ts m xs u ev.
-            let f = field.Item m.1 in
-            let g = added after v m.2 xs u f ev m.6 in
-            (f ∷ g.0, g.1, fielded (item (ended m.3 m.5) (fields_end g.2)) g.2, g.3))
+    (λ n after v ts m xs u ev.
+    let f = field.Item m.1 in
+    let g = added after v m.2 xs u f ev m.6 in
+    (f ∷ g.0, g.1, fielded (item (ended m.3 m.5) (fields_end g.2)) g.2, g.3))
 back_others x.NameField kind o h =
     stand x.NameField kind _ _ o (others_are (is_assign_sign kind) _ _ o h).1
-        (λ n after v ts m y xs u i ev.
-            let t0 = at (k.Name y) i ∷ at kind n ∷ ts in
-            let g = m (e.Name y) [] (part.Fields xs ∷ u) t0 (ap (λ (v : Parts). part.Suffixes [] ∷ part.Expr (e.Name (name_at v)) ∷ below v) ev) (prefixed name no_suffix) (name_marks y i (at kind n ∷ ts)) in
-            let a = g.6 (suffixed g.1 g.2) (part.Fields xs ∷ u) t0 refl (prefix g.4 g.5) (λ h. omega arith) in
-            let f = field.Item a.1 in
-            let fs = a.6 (xs ++ f ∷ []) u refl in
-            (
-              f,
-              fs.0,
-              a.2,
-              fs.1,
-              item (ended a.3 a.5) (fields_end fs.2),
-              fs.2,
-              subst (λ all. after (part.Fields all ∷ u) fs.1) (append_assoc xs (f ∷ []) fs.0) fs.3,
-            ))
+    (λ n after v ts m y xs u i ev.
+    let t0 = at (k.Name y) i ∷ at kind n ∷ ts in
+    let g = m (e.Name y) [] (part.Fields xs ∷ u) t0 (ap (λ (v : Parts). part.Suffixes [] ∷ part.Expr (e.Name (name_at v)) ∷ below v) ev) (prefixed name no_suffix) (name_marks y i (at kind n ∷ ts)) in
+    let a = g.6 (suffixed g.1 g.2) (part.Fields xs ∷ u) t0 refl (prefix g.4 g.5) (λ h. omega arith) in
+    let f = field.Item a.1 in
+    let fs = a.6 (xs ++ f ∷ []) u refl in (
+      f,
+      fs.0,
+      a.2,
+      fs.1,
+      item (ended a.3 a.5) (fields_end fs.2),
+      fs.2,
+      subst (λ all. after (part.Fields all ∷ u) fs.1) (append_assoc xs (f ∷ []) fs.0) fs.3,
+    ))
 back_others x.ReturnExprs kind o h =
     stand x.ReturnExprs kind _ _ o (others_are (not (begins_expr kind)) _ _ o h).1
-        (λ n after v ts m xs u ev.
-            (m.1 ∷ m.6.0, m.6.1, values (joined (ended m.3 m.5) m.6.2), subst (λ (v : Parts). after (part.Exprs (exprs v ++ m.1 ∷ m.6.0) ∷ below v) m.6.1) ev m.6.3))
+    (λ n after v ts m xs u ev.
+    (m.1 ∷ m.6.0, m.6.1, values (joined (ended m.3 m.5) m.6.2), subst (λ (v : Parts). after (part.Exprs (exprs v ++ m.1 ∷ m.6.0) ∷ below v) m.6.1) ev m.6.3))
 back_others (x.LocalMore c) kind o h =
     let b = others_are (goes_on_with_names kind) _ _ o h in
     let ends = list_ends kind b.0 in
     stand (x.LocalMore c) kind _ _ o b.1
-        (λ n after v ts m.
-            (
-              [],
-              [],
-              at kind n ∷ ts,
-              at kind n ∷ ts,
-              m.0,
-              m.1,
-              m.2,
-              no_more,
-              no_values ends.0 ends.1,
-              m.3,
-              local_end after v m.0 m.1 m.2 m.4,
-            ))
+    (λ n after v ts m. (
+      [],
+      [],
+      at kind n ∷ ts,
+      at kind n ∷ ts,
+      m.0,
+      m.1,
+      m.2,
+      no_more,
+      no_values ends.0 ends.1,
+      m.3,
+      local_end after v m.0 m.1 m.2 m.4,
+    ))
 back_others y kind o h = absurd (none_some h)
 
 -- ---- the end of the text

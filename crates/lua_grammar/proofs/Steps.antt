@@ -1,48 +1,26 @@
 -- Single steps of the reading.
-use Rattle.std.proofs.Common.{◌≡◌, ℕ, ◌+◌, ◌<◌, ◌≤◌, List, [], ◌∷◌, ◌++◌, append_assoc, Bool, true, false, nat_le, nat_lt, ◌==◌, refl, sym, ap, ◌∙◌, arith, subst, Ok, Err, Result, Option, Some, None, reverse, is_some}
+use Rattle.std.proofs.Common.{◌≡◌, ℕ, ◌+◌, ◌<◌, ◌≤◌, List, [], ◌∷◌, ◌++◌, append_assoc, true, false, nat_le, nat_lt, ◌==◌, refl, sym, ap, ◌∙◌, arith, Result, Option, Some, None, is_some}
 use Rattle.std.specs.Bool.{⊤}
-use Rattle.std.proofs.lemmas.List.{append-nil}
 use Rattle.std.proofs.lemmas.Bool.Decides.{nat_tests}
-use Rattle.lua_tree.specs.declared.token.Word.{Word}
 use Rattle.lua_tree.specs.declared.token.Word.TheVariants as word
-use Rattle.lua_tree.specs.declared.token.Sign.{Sign}
 use Rattle.lua_tree.specs.declared.token.Sign.TheVariants as sign
 use Rattle.lua_tree.specs.declared.token.TokenKind.{TokenKind}
 use Rattle.lua_tree.specs.declared.token.TokenKind.TheVariants as k
 use Rattle.lua_tree.specs.declared.tree.UnaryOp.{UnaryOp}
 use Rattle.lua_tree.specs.declared.tree.BinaryOp.{BinaryOp}
 use Rattle.lua_tree.specs.declared.tree.BinaryOp.TheVariants as binary
-use Rattle.lua_tree.specs.declared.tree.Expr.{Expr}
-use Rattle.lua_tree.specs.declared.tree.Expr.TheVariants as e
-use Rattle.lua_tree.specs.declared.tree.Expr.TheVariants.{outs-Name}
-use Rattle.lua_tree.specs.declared.tree.Operand.{Operand}
-use Rattle.lua_tree.specs.declared.tree.Suffix.{Suffix}
-use Rattle.lua_tree.specs.declared.tree.Suffix.TheVariants as suffix
-use Rattle.lua_tree.specs.declared.tree.Suffix.TheVariants.{outs-Index}
-use Rattle.lua_tree.specs.declared.tree.Field.{Field}
-use Rattle.lua_tree.specs.declared.tree.Field.TheVariants as field
-use Rattle.lua_tree.specs.declared.tree.Body.{Body}
-use Rattle.lua_tree.specs.declared.tree.Block.{Block}
-use Rattle.lua_tree.specs.declared.tree.Branch.{Branch}
-use Rattle.lua_tree.specs.declared.tree.Target.{Target}
-use Rattle.lua_tree.specs.declared.tree.Target.TheVariants as target
-use Rattle.lua_tree.specs.declared.tree.Stat.{Stat}
-use Rattle.lua_tree.specs.declared.tree.Stat.TheVariants as stat
-use Rattle.lua_grammar.specs.declared.tree.Part.{Part}
 use Rattle.lua_grammar.specs.declared.tree.Part.TheVariants as part
 use Rattle.lua_grammar.specs.declared.symbol.Phrase.{Phrase}
 use Rattle.lua_grammar.specs.declared.symbol.Phrase.TheVariants as phrase
-use Rattle.lua_grammar.specs.declared.symbol.Place.{Place}
 use Rattle.lua_grammar.specs.declared.symbol.Place.TheVariants as place
 use Rattle.lua_grammar.specs.declared.symbol.Scope.{Scope}
 use Rattle.lua_grammar.specs.declared.symbol.Effect.{Effect}
 use Rattle.lua_grammar.specs.declared.symbol.Effect.TheVariants as act
 use Rattle.lua_grammar.specs.declared.symbol.Symbol.{Symbol}
 use Rattle.lua_grammar.specs.declared.symbol.Symbol.TheVariants as x
-use Rattle.lua_grammar.specs.Lexeme.{Text, Lexeme, at, Lexemes, operator, unary_operator, level, groups_left, right_least, is_operator, is_suffix, is_comma, is_separator, is_semicolon, is_assign, begins_statement, begins_expr, Not}
-use Rattle.lua_grammar.specs.Grammar.{suffixed}
-use Rattle.lua_grammar.specs.Table.{Act, shift, pop, refuse, Step, plain, after_effects, over, acts_of, next, next_with, act_of, Others, others, becomes_unless, operand, at_unary, at_expr, at_tail, at_chained, at_suffix, at_block, at_more_exprs, at_semicolon, at_more_fields, is_close, begins_field, is_assign_sign, goes_on_with_names}
-use Rattle.lua_grammar.specs.Parts.{Parts, effect_of, effects_of, target_of}
+use Rattle.lua_grammar.specs.Lexeme.{Lexeme, at, Lexemes, operator, unary_operator, level, groups_left, right_least, is_operator, is_suffix, is_comma, is_separator, is_semicolon, begins_statement, Not}
+use Rattle.lua_grammar.specs.Table.{Act, shift, pop, refuse, Step, plain, over, acts_of, next_with, act_of, Others, others, operand, at_unary, at_expr, at_tail, at_chained, at_suffix, at_block, at_more_exprs, at_semicolon, at_more_fields}
+use Rattle.lua_grammar.specs.Parts.{Parts, effect_of, effects_of}
 use Rattle.lua_grammar.specs.Machine.{State, fed, taken, feed, going, run}
 
 -- what a list does once it is known what its first token does
@@ -216,7 +194,7 @@ pub tail_takes : (p q n : ℕ) (kind : TokenKind) (o : BinaryOp) (s : List Symbo
     → run (x.Tail p q ∷ s) v (at kind n ∷ ts) ≡ run (operand o ++ x.Tail p (level o) ∷ s) (part.Line n ∷ part.Operands [] ∷ v) ts
 tail_takes p q n kind o s v ts h i j =
     let e : at_tail p q (operator kind) ≡ shift (act.OpenOperands ∷ act.Line ∷ []) (operand o ++ x.Tail p (level o) ∷ []) =
-        ap (at_tail p q) h ∙ rw (le_true p (level o) i, lt_true (level o) q j) refl in
+    ap (at_tail p q) h ∙ rw (le_true p (level o) i, lt_true (level o) q j) refl in
     ap (λ a. from (plain a) s v (at kind n) ts) e
 
 pub chained_takes : (n : ℕ) (kind : TokenKind) (o : BinaryOp) (s : List Symbol) (v : Parts) (ts : Lexemes) → operator kind ≡ Some o → groups_left o ≡ true

@@ -1,5 +1,5 @@
 -- Where no token is refused, some chunk goes on so; where one is, none does.
-use Rattle.std.proofs.Common.{◌≡◌, ℕ, ◌+◌, ◌<◌, ◌≤◌, List, [], ◌∷◌, ◌++◌, append_assoc, Bool, true, false, not, nat_le, nat_lt, ◌==◌, if◌then◌else◌, refl, sym, ap, ◌∙◌, arith, subst, Ok, Err, Result, Option, Some, None, is_some, option_and_then}
+use Rattle.std.proofs.Common.{◌≡◌, ℕ, List, [], ◌∷◌, ◌++◌, append_assoc, Bool, true, false, not, nat_le, nat_lt, ◌==◌, if◌then◌else◌, refl, sym, ap, ◌∙◌, subst, Ok, Option, Some, None, option_and_then}
 use Rattle.std.specs.Bool.{⊤}
 use Rattle.std.specs.List.{flat_map}
 use Rattle.std.proofs.lemmas.List.{append-nil}
@@ -9,26 +9,9 @@ use Rattle.lua_tree.specs.declared.token.Sign.{Sign}
 use Rattle.lua_tree.specs.declared.token.Sign.TheVariants as sign
 use Rattle.lua_tree.specs.declared.token.TokenKind.{TokenKind}
 use Rattle.lua_tree.specs.declared.token.TokenKind.TheVariants as k
-use Rattle.lua_tree.specs.declared.tree.UnaryOp.{UnaryOp}
 use Rattle.lua_tree.specs.declared.tree.BinaryOp.{BinaryOp}
-use Rattle.lua_tree.specs.declared.tree.BinaryOp.TheVariants as binary
-use Rattle.lua_tree.specs.declared.tree.Expr.{Expr}
 use Rattle.lua_tree.specs.declared.tree.Expr.TheVariants as e
 use Rattle.lua_tree.specs.declared.tree.Expr.TheVariants.{outs-Name}
-use Rattle.lua_tree.specs.declared.tree.Operand.{Operand}
-use Rattle.lua_tree.specs.declared.tree.Suffix.{Suffix}
-use Rattle.lua_tree.specs.declared.tree.Suffix.TheVariants as suffix
-use Rattle.lua_tree.specs.declared.tree.Suffix.TheVariants.{outs-Index}
-use Rattle.lua_tree.specs.declared.tree.Field.{Field}
-use Rattle.lua_tree.specs.declared.tree.Field.TheVariants as field
-use Rattle.lua_tree.specs.declared.tree.Body.{Body}
-use Rattle.lua_tree.specs.declared.tree.Block.{Block}
-use Rattle.lua_tree.specs.declared.tree.Branch.{Branch}
-use Rattle.lua_tree.specs.declared.tree.Target.{Target}
-use Rattle.lua_tree.specs.declared.tree.Target.TheVariants as target
-use Rattle.lua_tree.specs.declared.tree.Stat.{Stat}
-use Rattle.lua_tree.specs.declared.tree.Stat.TheVariants as stat
-use Rattle.lua_grammar.specs.declared.tree.Part.{Part}
 use Rattle.lua_grammar.specs.declared.tree.Part.TheVariants as part
 use Rattle.lua_grammar.specs.declared.symbol.Phrase.{Phrase}
 use Rattle.lua_grammar.specs.declared.symbol.Phrase.TheVariants as phrase
@@ -39,12 +22,11 @@ use Rattle.lua_grammar.specs.declared.symbol.Effect.{Effect}
 use Rattle.lua_grammar.specs.declared.symbol.Effect.TheVariants as act
 use Rattle.lua_grammar.specs.declared.symbol.Symbol.{Symbol}
 use Rattle.lua_grammar.specs.declared.symbol.Symbol.TheVariants as x
-use Rattle.lua_tree.specs.declared.tree.Chunk.{Chunk}
-use Rattle.lua_grammar.specs.Lexeme.{Text, Lexeme, at, Lexemes, operator, unary_operator, level, groups_left, right_least, is_operator, is_suffix, is_comma, is_separator, is_semicolon, is_assign, begins_statement, begins_expr, Not}
-use Rattle.lua_grammar.specs.Grammar.{IsChunk, IsBlock, IsViable, IsFirstBad}
-use Rattle.lua_grammar.specs.Table.{Act, shift, pop, refuse, Step, plain, next_with, act_of, last_of, Others, others, operand, one_more, with_one, in_loop, of_function, function_block, is_close, begins_field, is_assign_sign, goes_on_with_names, at_unary, at_expr, at_tail, at_chained, at_suffix, at_phrase, at_block, at_more_exprs, at_semicolon, at_more_fields, at_fields, at_name_field, at_arguments, at_more_arguments, at_method_arguments, at_name, at_target, at_then, at_else, at_do, at_for_names, at_for_first, at_for_step, at_local, at_local_more, at_function_path, at_parameters, at_method_parameters, at_next_parameter, at_first_parameter, at_more_parameters, at_close_dots, at_close_index, at_close_paren, at_close_key, at_assign, at_comma, at_until, at_end}
+use Rattle.lua_grammar.specs.Lexeme.{Lexeme, at, Lexemes, operator, level, groups_left, is_operator, is_suffix, is_comma, is_semicolon, is_assign, begins_statement, begins_expr, Not}
+use Rattle.lua_grammar.specs.Grammar.{IsViable}
+use Rattle.lua_grammar.specs.Table.{Act, shift, pop, refuse, next_with, act_of, Others, others, operand, with_one, function_block, is_close, begins_field, is_assign_sign, goes_on_with_names, at_expr, at_tail, at_chained, at_suffix, at_phrase, at_block, at_name}
 use Rattle.lua_grammar.specs.Parts.{Parts, effect_of, effects_of}
-use Rattle.lua_grammar.specs.Machine.{State, fed, taken, feed, finish, ending, going, run, drive}
+use Rattle.lua_grammar.specs.Machine.{State, fed, taken, feed, going, run, drive}
 use Rattle.lua_grammar.proofs.Steps.{Below-none, Flat, feed_becomes, make_pops, tail_pops, chained_pops, suffix_pops, call_pops, more_pops, semicolon_pops, block_pops}
 use Rattle.lua_grammar.proofs.Complete.{chunk_read, local_begins, result_leaves, at_start, chunk_scope}
 use Rattle.lua_grammar.proofs.Sound.{run_block, others_flat, others_are, none_some}
@@ -283,12 +265,11 @@ finishes (x.LocalName c) = λ s v w h. local_ends (with_one c) s _ w h
 finishes (x.LocalMore c) = λ s v w h. local_ends c s v w h
 finishes (x.LocalFunction c) = λ s v w h.
     let u = part.Stats [] ∷ part.Names [] ∷ part.Name [] ∷ v in
-    let f = effect_of None (act.Body false) (effect_of None act.EndBlock u) in
-    (
+    let f = effect_of None (act.Body false) (effect_of None act.EndBlock u) in (
       _,
       make_pops (act.Body false) (x.Make act.LocalFunction ∷ x.Block (with_one c) ∷ s) (effect_of None act.EndBlock u) w
-      ∙ make_pops act.LocalFunction (x.Block (with_one c) ∷ s) f w
-      ∙ block_pops (with_one c) s (effect_of None act.LocalFunction f) w (block_statement w h),
+          ∙ make_pops act.LocalFunction (x.Block (with_one c) ∷ s) f w
+          ∙ block_pops (with_one c) s (effect_of None act.LocalFunction f) w (block_statement w h),
     )
 finishes x.FunctionName = λ s v w h. make_ends (act.Body false) s _ w
 finishes x.FunctionPath = λ s v w h. make_ends (act.Body false) s _ w
@@ -566,7 +547,7 @@ drive_quiet (t ∷ ts) s v state h e = drove (feed s v t) ts state s v t h refl 
 
 -- ---- what was driven, and what comes after
 
-abbrev state_or : State → Option State → State
+abbrev pub state_or : State → Option State → State
 state_or d (Some state) = state
 state_or d None = d
 

@@ -1,5 +1,5 @@
 -- Tokens as the grammar sees them: what each is, and its line. (The Lua 5.4 manual, sections 3.1 and 3.4.8.)
-use Rattle.std.specs.Prelude.{◌≡◌, ℕ, ◌+◌, List, [], ◌∷◌, Bool, true, false, ⊤, Option, Some, None, is_some, map, nat_lt}
+use Rattle.std.specs.Prelude.{◌≡◌, ℕ, ◌+◌, List, [], ◌∷◌, Bool, true, false, ⊤, Option, Some, None, is_some, map}
 use Rattle.lua_tree.specs.declared.token.Word.TheVariants as word
 use Rattle.lua_tree.specs.declared.token.Sign.TheVariants as sign
 use Rattle.lua_tree.specs.declared.token.Token.{Token}

@@ -1,5 +1,5 @@
 -- The reading from left to right: a stack of what is expected, the parts so far, one token at a time.
-use Rattle.std.specs.Prelude.{ℕ, List, [], ◌∷◌, ◌++◌, Result, Ok, Err, Option, Some, None, option_and_then}
+use Rattle.std.specs.Prelude.{List, [], ◌∷◌, ◌++◌, Result, Ok, Err, Option, Some, None, option_and_then}
 use Rattle.lua_grammar.specs.declared.symbol.Symbol.{Symbol}
 use Rattle.lua_grammar.specs.Lexeme.{Lexeme, Lexemes}
 use Rattle.lua_grammar.specs.Table.{Act, shift, pop, refuse, Step, next, last_of}

@@ -1,11 +1,9 @@
 -- What each effect does to the parts of trees that are being made, the newest first. A part that is not there is empty.
-use Rattle.std.specs.Prelude.{ℕ, List, [], ◌∷◌, ◌++◌, Bool, false, Option, Some, None, reverse}
+use Rattle.std.specs.Prelude.{ℕ, List, [], ◌∷◌, ◌++◌, false, Option, Some, None, reverse}
 use Rattle.lua_tree.specs.declared.token.Word.TheVariants as word
 use Rattle.lua_tree.specs.declared.token.Sign.TheVariants as sign
 use Rattle.lua_tree.specs.declared.token.TokenKind.{TokenKind}
 use Rattle.lua_tree.specs.declared.token.TokenKind.TheVariants as k
-use Rattle.lua_tree.specs.declared.tree.UnaryOp.{UnaryOp}
-use Rattle.lua_tree.specs.declared.tree.BinaryOp.{BinaryOp}
 use Rattle.lua_tree.specs.declared.tree.Expr.{Expr, out-Expr}
 use Rattle.lua_tree.specs.declared.tree.Expr.TheVariants as e
 use Rattle.lua_tree.specs.declared.tree.Expr.TheOpen.{Expr-F, Suffix-F}
@@ -195,12 +193,12 @@ effect_of t act.If v = add_stat (stat.If (branches v) None) (below v)
 effect_of t act.IfElse v = add_stat (stat.If (branches (below v)) (Some (block v))) (below (below v))
 effect_of t act.Numeric v =
     add_stat (stat.Numeric (numeric_of (first (names (below (below (below v))))) (expr (below (below v))) (expr (below v)) None (block v) (line (below (below (below (below v)))))))
-        (below (below (below (below (below v)))))
+    (below (below (below (below (below v)))))
 effect_of t act.NumericBy v =
     add_stat
-        (stat.Numeric (numeric_of (first (names (below (below (below (below v)))))) (expr (below (below (below v)))) (expr (below (below v))) (Some (expr (below v))) (block v)
-            (line (below (below (below (below (below v))))))))
-        (below (below (below (below (below (below v))))))
+    (stat.Numeric (numeric_of (first (names (below (below (below (below v)))))) (expr (below (below (below v)))) (expr (below (below v))) (Some (expr (below v))) (block v)
+    (line (below (below (below (below (below v))))))))
+    (below (below (below (below (below (below v))))))
 effect_of t act.Generic v =
     add_stat (stat.Generic (generic_of (names (below (below v))) (exprs (below v)) (block v) (line (below (below (below v)))))) (below (below (below (below v))))
 effect_of t act.LocalAlone v = add_stat (stat.Local (names v) []) (below v)

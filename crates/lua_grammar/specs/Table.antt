@@ -1,5 +1,5 @@
 -- The table: what a symbol that is expected does at a token, with one token of look-ahead.
-use Rattle.std.specs.Prelude.{◌≡◌, ℕ, ◌+◌, List, [], ◌∷◌, ◌++◌, Bool, true, false, not, nat_le, nat_lt, ◌==◌, if◌then◌else◌, Option, Some, None}
+use Rattle.std.specs.Prelude.{ℕ, ◌+◌, List, [], ◌∷◌, ◌++◌, Bool, true, false, not, nat_le, nat_lt, ◌==◌, if◌then◌else◌, Option, Some, None}
 use Rattle.lua_tree.specs.declared.token.Word.TheVariants as word
 use Rattle.lua_tree.specs.declared.token.Sign.TheVariants as sign
 use Rattle.lua_tree.specs.declared.token.TokenKind.{TokenKind}
@@ -66,14 +66,14 @@ operand o = x.Expr (right_least o) ∷ x.Make (act.AddOperand o) ∷ x.Chained (
 abbrev pub at_tail : ℕ → ℕ → Option BinaryOp → Act
 at_tail p q (Some o) =
     if nat_le p (level o) then
-        (if nat_lt (level o) q then shift (act.OpenOperands ∷ act.Line ∷ []) (operand o ++ x.Tail p (level o) ∷ []) else refuse)
+    (if nat_lt (level o) q then shift (act.OpenOperands ∷ act.Line ∷ []) (operand o ++ x.Tail p (level o) ∷ []) else refuse)
     else pop []
 at_tail p q None = pop []
 
 abbrev pub at_chained : ℕ → Option BinaryOp → Act
 at_chained l (Some o) =
     if level o == l then
-        (if groups_left o then shift (act.Line ∷ []) (operand o) else refuse)
+    (if groups_left o then shift (act.Line ∷ []) (operand o) else refuse)
     else pop (act.EndChain ∷ [])
 at_chained l None = pop (act.EndChain ∷ [])
 

@@ -1,6 +1,7 @@
-//! The grammar of the Lua profile, and a table that reads it from left to right.
+//! The grammar of the Lua profile, and a table that reads it from left to right with one token of look-ahead.
 #![tactic(auto)]
 
+pub mod laws;
 mod symbol;
 mod tree;
 
