@@ -62,10 +62,8 @@ impl Timers {
         self.timers.is_empty()
     }
 
-    /// Adds a timer that is due so many ticks from now.
+    /// Adds a timer that is due so many ticks from now; with 0 ticks it is due at the next one.
     pub fn add(&mut self, ticks: u32, handle: Handle, session: Session) -> Result<(), NoMemory>
-        requires some { 1 ≤ ticks }
-        requires most { ticks ≤ 2147483647 }
         ensures ok { OnOk result (self.new ≡ add_lem self.old ticks handle session) }
         ensures err { OnErr result (self.new ≡ self.old) }
     {
