@@ -1,5 +1,5 @@
 -- Names in order are distinct.
-use Rattle.std.proofs.Common.{◌≡◌, ◌∙◌, sym, Bool, false, ℕ, List, [], ◌∷◌, String, map, string_bytes}
+use Rattle.std.proofs.Common.{◌≡◌, ◌∙◌, sym, false, List, [], ◌∷◌, String, map, string_bytes}
 use Rattle.std.specs.List.{AllByRecursion, IsDistinct}
 use Rattle.std.specs.List.Sorted.{IsStrictlySortedBy}
 use Rattle.std.specs.Ordering.{eq_by_cmp}

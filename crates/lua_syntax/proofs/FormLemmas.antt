@@ -1,6 +1,6 @@
 -- A line begins in one way at most.
-use Rattle.std.proofs.Common.{◌≡◌, ◌∙◌, ◌++◌, ◌&&◌, ap, refl, sym, subst, ℕ, Bool, true, false, not, true≢false, List, [], ◌∷◌, cond, length, take, drop, inl, inr, arith, append_assoc, append-nil, ◌+◌, ◌<◌}
-use Rattle.std.specs.Prelude.{◌⊎◌, ◌==◌, take_while, Result, Ok, Err, IfOk, ◌≤◌}
+use Rattle.std.proofs.Common.{◌≡◌, ◌∙◌, ◌++◌, ◌&&◌, ap, refl, sym, subst, ℕ, Bool, true, false, true≢false, List, [], ◌∷◌, cond, length, take, drop, inl, inr, append_assoc, append-nil}
+use Rattle.std.specs.Prelude.{take_while, Result, Ok, Err, IfOk, ◌≤◌}
 use Rattle.std.specs.List.{list_all}
 use Rattle.std.specs.Str.{bytes_eq}
 use Rattle.std.proofs.Math.Seq.{drop-append_seam, take-append_seam}

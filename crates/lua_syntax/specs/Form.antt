@@ -1,5 +1,5 @@
 -- Which texts are scripts so far, and what each logs.
-use Rattle.std.specs.Prelude.{◌≡◌, ◌≢◌, ◌⊎◌, ◌≤◌, ◌==◌, ◌&&◌, not, ℕ, List, [], ◌∷◌, ◌++◌, Bool, true, length, codes}
+use Rattle.std.specs.Prelude.{◌≡◌, ◌⊎◌, ◌≤◌, ◌==◌, ◌&&◌, not, ℕ, List, [], ◌∷◌, ◌++◌, Bool, true, length, codes}
 use Rattle.std.specs.List.{list_all}
 use Rattle.sk_types.specs.declared.fault.SyntaxFault.{SyntaxFault}
 use Rattle.sk_types.specs.declared.fault.SyntaxKind.TheVariants as kind

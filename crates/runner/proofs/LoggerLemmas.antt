@@ -1,6 +1,6 @@
 -- What the format of an address writes.
-use Rattle.std.proofs.Common.{◌≡◌, ◌∙◌, ◌++◌, ◌-◌, ◌^◌, ap, refl, ℕ, List, [], ◌∷◌, false, length, replicate, append-nil, arith}
-use Rattle.std.specs.Fmt.{digits, format_spec, padded_integral, char_count}
+use Rattle.std.proofs.Common.{◌≡◌, ◌∙◌, ◌++◌, ◌-◌, ◌^◌, ap, ℕ, List, [], false, length, replicate, append-nil, arith}
+use Rattle.std.specs.Fmt.{format_spec, padded_integral, char_count}
 use Rattle.runner.specs.Logger.{eight_digits}
 
 -- a number with the flag `0` and the width 8

@@ -1,16 +1,13 @@
 -- The clauses of a run, from what its steps gave.
-use Rattle.std.proofs.Common.{◌≡◌, ◌∙◌, ap, refl, sym, ℕ, List, Option, Some, None}
+use Rattle.std.proofs.Common.{◌≡◌, ◌∙◌, refl, sym, ℕ, List, Option, Some, None}
 use Rattle.std.specs.Prelude.{IfSome}
-use Rattle.sk_types.specs.declared.number.Handle.{Handle}
 use Rattle.sk_types.specs.declared.fault.SyntaxFault.{SyntaxFault}
 use Rattle.sk_types.specs.declared.fault.StartFault.TheVariants as start
 use Rattle.sk_ports.specs.Files.{Files, file}
-use Rattle.sk_ports.specs.Pieces.{WrotePrefix, appended}
 use Rattle.lua_syntax.specs.Form.{IsRefused}
 use Rattle.lua_syntax.specs.declared.parser.ParseError.TheVariants as error
 use Rattle.runner.specs.Scripts.{HasScripts}
-use Rattle.runner.specs.World.{World, IsDrained, after, opening}
-use Rattle.runner.specs.Run.{CannotStart, IsDrainedRun, RunCut, RunWritten, Starts, start_file}
+use Rattle.runner.specs.Run.{CannotStart, start_file}
 
 -- a start script that was refused does not read
 pub unread_told : (held : Option Files) (scripts : Files) (bytes : List ℕ) (fault : SyntaxFault) → IfSome held (HasScripts scripts)

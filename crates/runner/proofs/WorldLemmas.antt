@@ -1,8 +1,8 @@
 -- What the loop over the world needs.
-use Rattle.std.proofs.Common.{◌≡◌, ◌∙◌, ◌++◌, ◌+◌, ◌*◌, ◌<◌, ◌==◌, ap, refl, sym, subst, ℕ, Bool, true, false, List, [], ◌∷◌, Option, Some, None, length, arith, append_assoc, append-nil, length-append, if◌then◌else◌}
+use Rattle.std.proofs.Common.{◌≡◌, ◌∙◌, ◌++◌, ◌<◌, ◌==◌, ap, refl, sym, subst, ℕ, Bool, true, false, List, [], ◌∷◌, Some, None, length, arith, append_assoc, append-nil, length-append, if◌then◌else◌}
 use Rattle.sk_types.specs.declared.number.Handle.{Handle}
 use Rattle.runner.specs.declared.message.Message.{Message}
-use Rattle.runner.specs.World.{World, Step, act, actions_left, after, log_message, logger_acts, logs, prefixed, service_acts, takes, then_acts, writes}
+use Rattle.runner.specs.World.{World, Step, act, actions_left, after, logger_acts, logs, prefixed, service_acts, takes, then_acts, writes}
 
 prefixed-prefixed : (p q : List ℕ) (s : Step) → prefixed p (prefixed q s) ≡ prefixed (p ++ q) s
 prefixed-prefixed p q None = refl

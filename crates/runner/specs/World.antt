@@ -1,7 +1,6 @@
 -- The one-thread message machine, as far as a script that logs texts needs it: the start service and the logger.
 use Rattle.std.specs.Prelude.{◌≡◌, ℕ, ◌+◌, ◌*◌, ◌==◌, Bool, true, false, List, [], ◌∷◌, ◌++◌, Option, Some, None, if◌then◌else◌, length}
 use Rattle.sk_types.specs.declared.number.Handle.{Handle}
-use Rattle.sk_types.specs.declared.number.Session.{Session}
 use Rattle.sk_types.specs.declared.number.Kind.TheVariants as kind
 use Rattle.runner.specs.declared.message.Message.{Message}
 use Rattle.runner.specs.Logger.{line_of}

@@ -1,8 +1,8 @@
 -- The names of files, each once.
-use Rattle.std.proofs.Common.{◌≡◌, ◌∙◌, ◌||◌, ◌&&◌, ◌++◌, ap, refl, sym, ℕ, Bool, true, false, not, List, [], ◌∷◌, is_some, Some, None, cond, true≢false, filter, map, string_bytes, String, Vec, take, length, get_or, drop, ◌<◌, ◌+◌, if◌then◌else◌}
+use Rattle.std.proofs.Common.{◌≡◌, ◌∙◌, ◌||◌, ◌++◌, ap, refl, sym, ℕ, Bool, true, false, not, List, [], ◌∷◌, is_some, Some, None, cond, true≢false, filter, map, string_bytes, String, Vec, take, length, get_or, drop, ◌<◌, ◌+◌, if◌then◌else◌}
 use Rattle.std.proofs.lemmas.List.{drop_more, map-append, map_more, take-append-drop}
 use Rattle.std.specs.Map.{lookup}
-use Rattle.std.specs.Bool.{Decides, one_answer}
+use Rattle.std.specs.Bool.{one_answer}
 use Rattle.std.specs.Str.{bytes_eq}
 use Rattle.std.specs.List.{IsDistinct, list_any, AllByRecursion}
 use Rattle.std.proofs.lemmas.Slice.Eq.{bytes_eq-Decides}

@@ -1,5 +1,5 @@
 use Rattle.std.proofs.Common.{◌∙◌, ap, drop, take}
-use Rattle.lua_syntax.proofs.FormLemmas.{found_line, no_opening, refused_line}
+use Rattle.lua_syntax.proofs.FormLemmas.{found_line, refused_line}
 use Rattle.lua_syntax.proofs.parser.next_line.Goals as goal
 
 pub returns-in_err-rest : goal.returns-in_err-rest

@@ -1,4 +1,4 @@
-use Rattle.std.proofs.Common.{◌≡◌, ◌∙◌, ◌++◌, ◌∷◌, [], ap, refl, sym, true≢false}
+use Rattle.std.proofs.Common.{◌∙◌, ◌++◌, ◌∷◌, [], ap, refl, sym, true≢false}
 use Rattle.lua_syntax.proofs.FormLemmas.{Continues-line, lines_alone, lines_found, lines_refused}
 use Rattle.lua_syntax.proofs.parser.read_lines.Goals as goal
 

@@ -1,4 +1,4 @@
-use Rattle.std.proofs.Common.{◌≡◌, ◌∙◌, ap, sym, map, string_bytes, length, arith, ◌<◌, ◌≤◌, Some}
+use Rattle.std.proofs.Common.{◌∙◌, arith}
 use Rattle.runner.proofs.ScriptsLemmas.{item_is_listed, told_all, told_more}
 use Rattle.runner.proofs.scripts.read_scripts.Goals as goal
 

@@ -1,4 +1,4 @@
-use Rattle.std.proofs.Common.{◌≡◌, ◌∙◌, ◌++◌, ◌∷◌, [], ap, map, string_bytes}
+use Rattle.std.proofs.Common.{◌∙◌, ◌++◌, ◌∷◌, [], ap, map, string_bytes}
 use Rattle.std.proofs.lemmas.List.{map_push}
 use Rattle.sk_ports.proofs.FilesLemmas.{has_name-texts, with_name-new, with_name-there}
 use Rattle.sk_ports.proofs.memory_folder.add_name.Goals as goal

@@ -1,4 +1,3 @@
-use Rattle.std.proofs.Common.{sym}
 use Rattle.sk_ports.specs.Files.{files_of}
 use Rattle.sk_ports.proofs.FilesLemmas.{IsDistinct-names_of, Lists-names_of}
 use Rattle.sk_ports.proofs.memory_folder.MemoryFolderFolder.names.Goals as goal
