@@ -1,0 +1,5 @@
+pub mod Scope
+pub mod Walk
+pub mod Branches
+pub mod Scoped
+pub mod Worked
