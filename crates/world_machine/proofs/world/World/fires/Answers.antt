@@ -1,0 +1,17 @@
+use Rattle.std.proofs.Common.{◌≡◌, ◌≤◌, ◌<◌, ◌-◌, ◌+◌, ℕ, List, length, map, arith, subst, sym, ap, ◌∙◌, get_or, refl, Some, None, [], ◌∷◌, ◌++◌, length-append}
+use Rattle.std.proofs.lemmas.List.{length-map}
+use Rattle.message.specs.Worlds.{World, service_over, over}
+use Rattle.message.specs.declared.place.Service.{Service}
+use Rattle.world_machine.specs.Machines.{Machine}
+use Rattle.world_machine.specs.Spotted.{spots}
+use Rattle.world_machine.specs.Launching.{FirstDue}
+use Rattle.world_machine.proofs.Clocking.{fires_popped}
+use Rattle.world_machine.proofs.world.World.fires.Goals as goal
+
+pub returns-in-Ok-clause-done : goal.returns-in-Ok-clause-done
+returns-in-Ok-clause-done g c =
+    let way = g.A.Actor.way in
+    let f = g.A.Actor.meaning in
+    let w = c.self.inside in
+    let first = subst (λ (v : Machine g.row.A.Denot). FirstDue v.world.due c.args.to c.args.session) (sym c.self.view_is) c.requires in
+    rw (← c.self.view_is) (fires_popped way (map (service_over f) w.services.items) (spots w.places) (spots c.fire.new.self) w.due.items c.pop_front.new.self.items c.args.to c.args.session first c.pop_front.ensures.rest c.in-Ok.ensures.done)

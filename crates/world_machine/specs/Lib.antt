@@ -1,0 +1,11 @@
+pub mod Okay
+pub mod Spots
+pub mod Spotted
+pub mod Serving
+pub mod Standing
+pub mod Machines
+pub mod Failing
+pub mod Idling
+pub mod Launching
+pub mod Opening
+pub mod Quiet

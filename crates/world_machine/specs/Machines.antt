@@ -1,0 +1,29 @@
+-- The machine as contracts see it, and its acts.
+use Rattle.std.specs.Prelude.{ℕ, ◌≡◌, Bool, true, List, Option, Some, length, ◌⊎◌}
+use Rattle.sk_types.specs.declared.number.Handle.{Handle}
+use Rattle.message.specs.Actors.{Way}
+use Rattle.message.specs.Registries.{at}
+use Rattle.message.specs.Worlds.{World, act}
+use Rattle.message.specs.Texts.{line_of}
+use Rattle.message.specs.declared.record.What.{What}
+use Rattle.message.specs.declared.place.Service.{Service}
+use Rattle.world_machine.specs.Okay.{ServiceOk}
+
+-- all agents and places; and whether a service met want of memory as it was fed
+pub record Machine (A : Type 0) : Type 0 where
+  pub world : World A
+  pub spent : Bool
+
+-- each handle that was given has a service and an inbox; each service is in a state that can be reached, and has its handle
+pub record IsMachine {S : Type 0} (way : Way S) (sound : S → Type 0) (services : List (Service S)) (inboxes given : ℕ) : Type 0 where
+  pub paired : length services ≡ inboxes
+  pub registered : given ≡ inboxes
+  pub okay : (h : Handle) (x : Service S) → at services h.0 ≡ Some x → ServiceOk way sound h x
+
+-- agent h did its one next action, and this is the line that it wrote, if any
+abbrev pub Did : {S : Type 0} → Way S → World S → Handle → Option (List ℕ) → World S → Type 0
+Did way w h line w2 = (what : What) × (act way w h ≡ Some (what, w2)) × (line ≡ line_of h what)
+
+-- want of memory: nothing is done, or the machine is spent
+abbrev pub Halts : {A : Type 0} → Machine A → Machine A → Type 0
+Halts m m2 = (m2 ≡ m) ⊎ (m2.spent ≡ true)

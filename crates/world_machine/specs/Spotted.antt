@@ -1,0 +1,6 @@
+-- The places, as contracts see them.
+use Rattle.world_machine.specs.declared.places.Places.{Places}
+use Rattle.world_machine.specs.Spots.{Spots}
+
+abbrev pub spots : Places → Spots
+spots p = record { inboxes = p.inboxes.items; registry = p.registry; clock = p.clock }
