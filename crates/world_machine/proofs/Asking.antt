@@ -1,5 +1,5 @@
 -- What a service asks is done, and the answer is fed to it: that is its act.
-use Rattle.std.proofs.Common.{◌⊎◌, inl, inr, ◌≡◌, ℕ, ◌<◌, ◌≤◌, ◌-◌, ◌==◌, Bool, true, false, List, [], ◌∷◌, length, map, Option, Some, None, slice_get, slice_set, get_or, option_map, if◌then◌else◌, refl, ap, sym, ◌∙◌, subst, arith, length-set}
+use Rattle.std.proofs.Common.{◌≡◌, ℕ, ◌<◌, ◌≤◌, ◌-◌, ◌==◌, Bool, true, false, List, [], ◌∷◌, length, map, Option, Some, None, slice_get, slice_set, get_or, option_map, if◌then◌else◌, refl, ap, sym, ◌∙◌, subst, arith, length-set}
 use Rattle.std.proofs.lemmas.Option.{slice_get-map, slice_get-get_or}
 use Rattle.std.proofs.lemmas.List.{map-set}
 use Rattle.std.proofs.lemmas.Bool.Decides.{nat_tests}
@@ -9,13 +9,11 @@ use Rattle.message.specs.Actors.{Way, Fits, MayAnswer}
 use Rattle.message.specs.Inboxes.{put, mark}
 use Rattle.message.specs.Registries.{Registry, at, set_at, is_listed, does_look, does_name, does_retire, name, retire, may_name, may_retire}
 use Rattle.message.specs.Clocks.{add}
-use Rattle.message.specs.Steps.{Op, Asks, Takes, Ends, Agent, Serves, Times, IsOne, ops, service_ops, next_ops, bounce_ops, input_of, service_after, agent_after, place_of, does, PlaceState, AtRegistry, AtInbox, AtClock}
+use Rattle.message.specs.Steps.{Asks, Serves, service_ops, next_ops, bounce_ops, input_of, service_after, place_of, does, PlaceState, AtRegistry, AtInbox, AtClock}
 use Rattle.message.specs.Texts.{line_of}
-use Rattle.message.specs.Worlds.{World, agent, agent_or_clock, serves, place, inbox_state, set_place, set_agent, grow, act, answer_at, left_by, over, service_over}
-use Rattle.message.proofs.Acts.{act_first, act_none}
-use Rattle.message.specs.declared.request.Message.{Message}
+use Rattle.message.specs.Worlds.{World, agent, agent_or_clock, serves, place, inbox_state, set_place, set_agent, grow, act, left_by, over, service_over}
+use Rattle.message.proofs.Acts.{act_first}
 use Rattle.message.specs.declared.request.Held.{Held}
-use Rattle.message.specs.declared.request.Dest.{Dest}
 use Rattle.message.specs.declared.request.Dest.TheVariants.{Number, Name}
 use Rattle.message.specs.declared.request.Request.{Request}
 use Rattle.message.specs.declared.request.Request.TheVariants as ask
@@ -26,13 +24,13 @@ use Rattle.message.specs.declared.request.Next.{Next}
 use Rattle.message.specs.declared.request.Next.TheVariants.{Idle, Ask}
 use Rattle.message.specs.declared.record.What.{What}
 use Rattle.message.specs.declared.record.What.TheVariants as did
-use Rattle.message.specs.declared.place.Place.TheVariants.{Registry as TheRegistry, Inbox as TheInbox, Clock as TheClock}
+use Rattle.message.specs.declared.place.Place.TheVariants.{Registry as TheRegistry}
 use Rattle.message.specs.declared.place.InboxState.{InboxState}
 use Rattle.message.specs.declared.place.Service.{Service}
 use Rattle.message.specs.declared.place.Service.TheVariants.{Serving, Leaving}
 use Rattle.message.specs.declared.place.Ending.{Ending}
-use Rattle.world_machine.specs.Spots.{Spots, with_spots, in_registry, in_clock, in_inbox, in_inbox_of, asked_at, Gives}
-use Rattle.world_machine.specs.Serving.{MayGet, answered, ending_answered}
+use Rattle.world_machine.specs.Spots.{Spots, with_spots, in_registry, in_clock, in_inbox_of, asked_at, Gives}
+use Rattle.world_machine.specs.Serving.{MayGet, answered}
 use Rattle.world_machine.specs.Machines.{Did}
 use Rattle.world_machine.specs.Launching.{Hears}
 

@@ -1,20 +1,19 @@
 -- Agent 0 fires the first timer that is due, or the clock goes on by a tick.
-use Rattle.std.proofs.Common.{◌≡◌, ℕ, ◌<◌, ◌≤◌, ◌+◌, ◌-◌, nat_lt, Bool, true, false, List, [], ◌∷◌, ◌++◌, length, map, Option, Some, None, slice_set, drop, if◌then◌else◌, refl, ap, sym, ◌∙◌, subst, arith, length-set}
+use Rattle.std.proofs.Common.{◌≡◌, ◌<◌, ◌+◌, nat_lt, true, List, [], ◌∷◌, ◌++◌, length, Option, Some, None, drop, refl, ap, sym, ◌∙◌, subst, arith}
 use Rattle.std.proofs.lemmas.Bool.Decides.{nat_tests}
 use Rattle.sk_types.specs.declared.number.Handle.{Handle}
 use Rattle.sk_types.specs.declared.number.Session.{Session}
 use Rattle.message.specs.Actors.{Way}
 use Rattle.message.specs.Messages.{timer_message}
 use Rattle.message.specs.Inboxes.{fire}
-use Rattle.message.specs.Registries.{at, set_at}
+use Rattle.message.specs.Registries.{at}
 use Rattle.message.specs.Clocks.{Clock, tick, ticked, due_at, last_tick}
-use Rattle.message.specs.Steps.{Op, Ticks, Fires, Agent, Times, ops, due_ops, place_of, does, AtInbox, AtClock, with_state}
-use Rattle.message.specs.Worlds.{World, agent, place, inbox_state, act, answer_at, left_by, over, service_over}
+use Rattle.message.specs.Steps.{Ticks, Fires, Times, ops, does, AtInbox, AtClock, with_state}
+use Rattle.message.specs.Worlds.{inbox_state, act, answer_at}
 use Rattle.message.proofs.Acts.{act_first, act_none}
 use Rattle.message.specs.declared.place.Timer.{Timer}
 use Rattle.message.specs.declared.place.InboxState.{InboxState}
 use Rattle.message.specs.declared.place.Service.{Service}
-use Rattle.message.specs.declared.record.What.{What}
 use Rattle.message.specs.declared.record.What.TheVariants as did
 use Rattle.world_machine.specs.Spots.{Spots, with_spots, in_inbox, in_inbox_of, Leaves}
 use Rattle.world_machine.specs.Machines.{Did}

@@ -1,10 +1,10 @@
 -- The registry after the first three handles and their names.
-use Rattle.std.proofs.Common.{◌≡◌, ℕ, ◌<◌, ◌+◌, ◌==◌, not, is_some, cond, Bool, true, false, List, [], ◌∷◌, length, Option, Some, None, if◌then◌else◌, refl, ap, sym, ◌∙◌, subst, arith, codes}
+use Rattle.std.proofs.Common.{◌≡◌, ℕ, ◌<◌, is_some, true, false, List, [], ◌∷◌, length, Option, Some, None, if◌then◌else◌, refl, ap, sym, ◌∙◌, subst, arith, codes}
 use Rattle.std.specs.Ordering.{nat_cmp}
 use Rattle.std.specs.Cmp.Lexicographic.{slice_cmp, nat_list_cmp_total}
 use Rattle.std.specs.FinMap as names
 use Rattle.sk_types.specs.declared.number.Handle.{Handle}
-use Rattle.message.specs.Registries.{Registry, Names, register, may_name, name, does_name, is_listed, is_name, most_handles}
+use Rattle.message.specs.Registries.{Registry, Names, register, may_name, name, does_name, most_handles}
 use Rattle.handle_names.specs.Living.{Registers}
 use Rattle.world_machine.specs.Opening.{first_handle, second_handle, opening_registry}
 

@@ -1,5 +1,5 @@
 -- An idle service ends, or takes a message, or has no action.
-use Rattle.std.proofs.Common.{◌⊎◌, inl, inr, ◌≡◌, ℕ, ◌<◌, ◌≤◌, ◌-◌, List, [], ◌∷◌, length, map, Option, Some, None, zero, suc, slice_set, get_or, refl, ap, sym, ◌∙◌, subst, arith, length-set}
+use Rattle.std.proofs.Common.{◌≡◌, ℕ, ◌<◌, ◌≤◌, ◌-◌, List, [], ◌∷◌, length, map, Option, Some, None, zero, suc, slice_set, get_or, refl, ap, sym, ◌∙◌, subst, arith, length-set}
 use Rattle.std.proofs.lemmas.Option.{slice_get-get_or}
 use Rattle.std.proofs.lemmas.List.{map-set}
 use Rattle.sk_types.specs.declared.number.Handle.{Handle}
@@ -7,13 +7,12 @@ use Rattle.sk_types.specs.declared.number.Session.{Session}
 use Rattle.message.specs.Actors.{Way}
 use Rattle.message.specs.Inboxes.{take_first, end}
 use Rattle.message.specs.Registries.{at, set_at}
-use Rattle.message.specs.Steps.{Op, Takes, Ends, Agent, Serves, ops, next_ops, place_of, does, AtInbox, with_state, inbox_does}
+use Rattle.message.specs.Steps.{Takes, Ends, Serves, next_ops, AtInbox, with_state}
 use Rattle.message.specs.Texts.{line_of}
-use Rattle.message.specs.Worlds.{World, agent, place, inbox_state, act, answer_at, left_by, over, service_over}
+use Rattle.message.specs.Worlds.{World, place, inbox_state, act, answer_at, over, service_over}
 use Rattle.message.proofs.Acts.{act_first, act_second, act_neither}
 use Rattle.message.proofs.Possible.{take_bars_end}
 use Rattle.message.specs.declared.request.Message.{Message}
-use Rattle.message.specs.declared.request.Next.TheVariants.{Idle}
 use Rattle.message.specs.declared.record.What.{What}
 use Rattle.message.specs.declared.record.What.TheVariants as did
 use Rattle.message.specs.declared.place.Place.TheVariants.{Inbox as TheInbox}

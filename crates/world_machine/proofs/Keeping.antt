@@ -1,6 +1,6 @@
 -- The machine keeps that each service is in a state that can be reached.
 use Rattle.std.proofs.Common.{◌⊎◌, inl, inr, ◌≡◌, ℕ, ◌<◌, ◌≤◌, ◌-◌, ◌==◌, List, length, map, Option, Some, None, true, get_or, slice_set, [], ◌∷◌, ◌++◌, ◌+◌, refl, ap, sym, ◌∙◌, subst, arith, length-set, length-append}
-use Rattle.std.proofs.lemmas.List.{map-set, length-map, map-append}
+use Rattle.std.proofs.lemmas.List.{map-set, map-append}
 use Rattle.sk_types.specs.declared.number.Handle.{Handle}
 use Rattle.std.specs.Prelude.{MatchOption}
 use Rattle.message.specs.Actors.{Way, IsLawful, Begins}

@@ -1,25 +1,20 @@
 -- A Launch: the answer is heard once the new service stands.
-use Rattle.std.proofs.Common.{◌⊎◌, inl, inr, ◌≡◌, ℕ, zero, suc, ◌<◌, ◌≤◌, ◌+◌, ◌-◌, ◌==◌, nat_lt, Bool, true, false, List, [], ◌∷◌, ◌++◌, length, map, Option, Some, None, slice_get, slice_set, get_or, if◌then◌else◌, refl, ap, sym, ◌∙◌, subst, arith, length-append}
-use Rattle.std.proofs.lemmas.Bool.Decides.{nat_tests}
+use Rattle.std.proofs.Common.{◌≡◌, ℕ, zero, suc, ◌<◌, ◌≤◌, ◌+◌, ◌-◌, nat_lt, Bool, true, false, List, [], ◌∷◌, ◌++◌, length, Option, Some, None, slice_get, slice_set, if◌then◌else◌, refl, ap, sym, ◌∙◌, subst, arith, length-append}
 use Rattle.sk_types.specs.declared.number.Handle.{Handle}
 use Rattle.message.specs.Actors.{Way, Fits}
 use Rattle.message.specs.Registries.{Registry, at, set_at, next_handle, register, does_launch, most_handles}
-use Rattle.message.specs.Steps.{Op, Asks, Agent, Serves, service_ops, next_ops, bounce_ops, service_after, agent_after, place_of, does, made, AtRegistry}
-use Rattle.message.specs.Texts.{line_of}
-use Rattle.message.specs.Worlds.{World, agent, place, set_place, set_agent, grow, grow_by, act, left_by}
+use Rattle.message.specs.Steps.{Asks, Serves, service_ops, bounce_ops, service_after, place_of, made, AtRegistry}
+use Rattle.message.specs.Worlds.{World, set_agent, grow_by, act, left_by}
 use Rattle.message.proofs.Acts.{act_first}
 use Rattle.message.specs.declared.datum.Datum.{Datum}
 use Rattle.message.specs.declared.request.Held.{Held}
-use Rattle.message.specs.declared.request.Request.{Request}
 use Rattle.message.specs.declared.request.Request.TheVariants as ask
 use Rattle.message.specs.declared.request.Answer.TheVariants.{Found}
 use Rattle.message.specs.declared.request.Input.TheVariants.{Answer as Answers}
-use Rattle.message.specs.declared.request.Next.TheVariants.{Ask}
 use Rattle.message.specs.declared.record.What.{What}
 use Rattle.message.specs.declared.record.What.TheVariants as did
 use Rattle.message.specs.declared.place.Service.{Service}
 use Rattle.message.specs.declared.place.Service.TheVariants.{Serving, Leaving}
-use Rattle.message.specs.declared.place.Ending.{Ending}
 use Rattle.world_machine.specs.Serving.{MayGet, answered}
 use Rattle.world_machine.specs.Standing.{StandsAt}
 use Rattle.world_machine.specs.Machines.{Did}

@@ -1,5 +1,5 @@
 -- What an idle service is about to do.
-use Rattle.std.specs.Prelude.{ℕ, ◌≡◌, List, [], ◌∷◌, Option, Some, None}
+use Rattle.std.specs.Prelude.{ℕ, ◌≡◌, List, [], ◌∷◌, Option}
 use Rattle.sk_types.specs.declared.number.Handle.{Handle}
 use Rattle.message.specs.Texts.{line_of, text_of}
 use Rattle.message.specs.declared.datum.Datum.{Datum}

@@ -4,7 +4,7 @@ use Rattle.std.specs.FinMap as names
 use Rattle.sk_types.specs.declared.number.Handle.{Handle}
 use Rattle.message.specs.Actors.{Way}
 use Rattle.message.specs.Registries.{Registry}
-use Rattle.message.specs.Worlds.{World, opening, over, first_names, empty_inbox, start_inbox}
+use Rattle.message.specs.Worlds.{opening, over, first_names, empty_inbox, start_inbox}
 use Rattle.world_machine.specs.Machines.{Machine}
 use Rattle.world_machine.specs.Spots.{Spots}
 

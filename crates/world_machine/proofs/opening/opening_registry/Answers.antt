@@ -1,4 +1,4 @@
-use Rattle.std.proofs.Common.{◌≡◌, ap, ◌∙◌}
+use Rattle.std.proofs.Common.{ap, ◌∙◌}
 use Rattle.message.specs.Registries.{does_name}
 use Rattle.world_machine.specs.Opening.{first_handle, second_handle}
 use Rattle.world_machine.proofs.FirstNames.{opening_is}

@@ -1,8 +1,7 @@
-use Rattle.std.proofs.Common.{◌≡◌, ◌≤◌, ◌<◌, ◌-◌, length, map, arith, subst, sym, ap, ◌∙◌, get_or}
+use Rattle.std.proofs.Common.{◌≡◌, ◌≤◌, length, subst, sym, ap, ◌∙◌}
 use Rattle.std.proofs.lemmas.List.{length-map}
 use Rattle.message.specs.Worlds.{service_over, over}
-use Rattle.message.specs.Steps.{service_ops, Asks}
-use Rattle.message.specs.declared.place.Service.{Service}
+use Rattle.message.specs.Steps.{service_ops}
 use Rattle.world_machine.specs.Machines.{Machine}
 use Rattle.world_machine.specs.Standing.{StandsAt}
 use Rattle.world_machine.specs.Spotted.{spots}

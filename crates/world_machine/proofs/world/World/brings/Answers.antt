@@ -1,9 +1,5 @@
-use Rattle.std.proofs.Common.{◌≡◌, ◌≤◌, ◌<◌, ◌-◌, ◌+◌, ℕ, List, length, map, arith, subst, sym, ap, ◌∙◌, get_or, refl, Some, None, [], ◌∷◌, ◌++◌, length-append}
-use Rattle.std.proofs.lemmas.List.{length-map}
-use Rattle.message.specs.Worlds.{World, service_over, over}
+use Rattle.std.proofs.Common.{◌<◌, ◌+◌, List, length, arith, ap, ◌∙◌, [], ◌∷◌, ◌++◌}
 use Rattle.message.specs.declared.place.Service.{Service}
-use Rattle.world_machine.specs.Machines.{Machine}
-use Rattle.world_machine.specs.Spotted.{spots}
 use Rattle.world_machine.proofs.Keeping.{machine_push, registered_len, begun_ok}
 use Rattle.world_machine.proofs.Lists.{pushed_len}
 use Rattle.sk_types.specs.declared.number.Handle.{Handle}

@@ -1,7 +1,6 @@
-use Rattle.std.proofs.Common.{◌≡◌, ◌≤◌, ◌<◌, ◌-◌, ◌+◌, ℕ, List, length, map, arith, subst, sym, ap, ◌∙◌, get_or, refl, Some, None, [], ◌∷◌, ◌++◌, length-append}
+use Rattle.std.proofs.Common.{◌≤◌, length, subst, sym, refl}
 use Rattle.std.proofs.lemmas.List.{length-map}
-use Rattle.message.specs.Worlds.{World, service_over, over}
-use Rattle.message.specs.declared.place.Service.{Service}
+use Rattle.message.specs.Worlds.{service_over, over}
 use Rattle.world_machine.specs.Machines.{Machine}
 use Rattle.world_machine.specs.Spotted.{spots}
 use Rattle.world_machine.specs.Launching.{MayHear}

@@ -1,14 +1,12 @@
-use Rattle.std.proofs.Common.{◌≡◌, ◌≤◌, ◌<◌, ◌-◌, ℕ, List, length, map, arith, subst, sym, ap, ◌∙◌, get_or, refl, Some, None}
+use Rattle.std.proofs.Common.{◌≡◌, ◌≤◌, ◌-◌, List, length, subst, sym, ap, ◌∙◌, refl, Some, None}
 use Rattle.std.proofs.lemmas.List.{length-map}
 use Rattle.message.specs.Inboxes.{end}
 use Rattle.message.specs.Registries.{at}
-use Rattle.message.specs.Worlds.{World, service_over, over}
+use Rattle.message.specs.Worlds.{service_over, over}
 use Rattle.message.specs.declared.place.InboxState.{InboxState}
-use Rattle.message.specs.declared.place.Service.{Service}
 use Rattle.world_machine.specs.Machines.{Machine}
 use Rattle.world_machine.specs.Standing.{StandsAt}
 use Rattle.world_machine.specs.Spotted.{spots}
-use Rattle.world_machine.specs.Okay.{ServiceOk}
 use Rattle.world_machine.specs.declared.served.Stage.TheVariants as stage
 use Rattle.world_machine.proofs.Asking.{same_service, seen}
 use Rattle.world_machine.proofs.Keeping.{machine_set}

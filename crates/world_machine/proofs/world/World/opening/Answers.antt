@@ -1,4 +1,4 @@
-use Rattle.std.proofs.Common.{◌≡◌, length, ap, ◌∙◌}
+use Rattle.std.proofs.Common.{length, ap, ◌∙◌}
 use Rattle.world_machine.specs.Spots.{Spots}
 use Rattle.world_machine.specs.Opening.{start_handle}
 use Rattle.world_machine.proofs.Keeping.{begun_ok, begins_ok, machine_three}

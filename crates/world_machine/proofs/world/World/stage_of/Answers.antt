@@ -1,10 +1,5 @@
-use Rattle.std.proofs.Common.{◌≡◌, ◌≤◌, ◌<◌, ◌-◌, ◌+◌, ℕ, List, length, map, arith, subst, sym, ap, ◌∙◌, get_or, refl, Some, None, [], ◌∷◌, ◌++◌, length-append}
-use Rattle.std.proofs.lemmas.List.{length-map}
-use Rattle.message.specs.Worlds.{World, service_over, over}
-use Rattle.message.specs.declared.place.Service.{Service}
-use Rattle.world_machine.specs.Machines.{Machine}
-use Rattle.world_machine.specs.Spotted.{spots}
-use Rattle.world_machine.specs.Standing.{StandsAt}
+use Rattle.std.proofs.Common.{◌≤◌, length, map, arith}
+use Rattle.message.specs.Worlds.{service_over}
 use Rattle.world_machine.proofs.Lists.{map_within}
 use Rattle.world_machine.proofs.Asking.{seen}
 use Rattle.world_machine.proofs.world.World.stage_of.Goals as goal

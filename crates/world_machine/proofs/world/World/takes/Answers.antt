@@ -1,12 +1,10 @@
-use Rattle.std.proofs.Common.{◌≡◌, ◌≤◌, ◌<◌, ◌-◌, ℕ, List, length, map, arith, subst, sym, ap, ◌∙◌, get_or, refl}
+use Rattle.std.proofs.Common.{◌≤◌, ◌<◌, ◌-◌, List, length, arith, subst, sym, ap, refl}
 use Rattle.std.proofs.lemmas.List.{length-map}
-use Rattle.message.specs.Worlds.{World, service_over, over}
+use Rattle.message.specs.Worlds.{service_over, over}
 use Rattle.message.specs.declared.place.InboxState.{InboxState}
-use Rattle.message.specs.declared.place.Service.{Service}
 use Rattle.world_machine.specs.Machines.{Machine}
 use Rattle.world_machine.specs.Standing.{StandsAt, StaysAt}
 use Rattle.world_machine.specs.Spotted.{spots}
-use Rattle.world_machine.specs.Serving.{IsIdle}
 use Rattle.world_machine.specs.Idling.{IsLineAhead}
 use Rattle.world_machine.specs.declared.served.Stage.TheVariants as stage
 use Rattle.world_machine.proofs.Asking.{same_service}
