@@ -338,9 +338,9 @@ path_read : {a : Target} {ts r : Lexemes} → (d : IsPath a ts r) → (s : List 
 path_read alone s v = refl
 path_read (path {x = z} d) s v = dots_read d [] s (part.Expr (e.Name z) ∷ v)
 
-end_read : {ts r : Lexemes} → IsEnd ts r → (s : List Symbol) (v : Parts) → run (x.OptionalSemicolon ∷ s) v ts ≡ run s v r
-end_read {r = r} (plain_end n) s v = semicolon_pops s v r n
-end_read semicolon_end s v = refl
+end_read : {ts r : Lexemes} → IsEnd ts r → (c : Scope) (s : List Symbol) (v : Parts) → run (x.OptionalSemicolon c ∷ s) v ts ≡ run s v r
+end_read {r = r} (plain_end n) c s v = semicolon_pops c s v r n
+end_read semicolon_end c s v = refl
 
 -- ---- expressions and statements
 
@@ -649,8 +649,8 @@ mutual
       ∙ stats_read f (scope_after d c) s (acc ++ a ∷ []) v
       ∙ ap (λ all. run s (part.Block (block_of all result) ∷ v) r) (append_assoc acc (a ∷ []) ss)
   stats_read {r = r} (return {es = es} {mid = mid} d f) c s acc v =
-      result_read d (x.OptionalSemicolon ∷ x.Make act.Return ∷ s) (part.Stats acc ∷ v)
-      ∙ end_read f (x.Make act.Return ∷ s) (part.Exprs es ∷ part.Stats acc ∷ v)
+      result_read d (x.OptionalSemicolon c ∷ x.Make act.Return ∷ s) (part.Stats acc ∷ v)
+      ∙ end_read f c (x.Make act.Return ∷ s) (part.Exprs es ∷ part.Stats acc ∷ v)
       ∙ make_pops act.Return s (part.Exprs es ∷ part.Stats acc ∷ v) r
       ∙ ap (λ all. run s (part.Block (block_of all (Some es)) ∷ v) r) (sym (append-nil acc))
 

@@ -255,7 +255,7 @@ Means x.CloseKey after v ts = Takes (k.Sign sign.CloseBracket) after v ts
 Means x.Assign after v ts = Takes (k.Sign sign.Assign) after v ts
 Means (x.Block c) after v ts = Statements after v ts
 Means x.ReturnExprs after v ts = (xs : List Expr) (u : Parts) → v ≡ part.Exprs xs ∷ u → (es : List Expr) × (r : Lexemes) × IsResult es ts r × after (part.Exprs (xs ++ es) ∷ u) r
-Means x.OptionalSemicolon after v ts = (r : Lexemes) × IsEnd ts r × after v r
+Means (x.OptionalSemicolon c) after v ts = (r : Lexemes) × IsEnd ts r × after v r
 Means x.Target after v ts = Assigns after ts v
 Means x.Comma after v ts = Takes (k.Sign sign.Comma) after v ts
 Means (x.Then c) after v ts = (m : ℕ) × (mid : Lexemes) × (b : Block) × (r : Lexemes) × (ts ≡ at (k.Word word.Then) m ∷ mid) × IsBlock b mid r × after (part.Block b ∷ v) r
@@ -613,9 +613,9 @@ back_block c kind = λ n after v ts m. (
   subst (λ ss. after (part.Block (block_of ss None) ∷ below v) (at kind n ∷ ts)) (sym (append-nil (stats v))) m,
 )
 
-back_semicolon : (kind : TokenKind) → Leads (at_semicolon kind) (Means x.OptionalSemicolon) kind
-back_semicolon (k.Sign sign.Semicolon) = λ n after v ts m. (ts, semicolon_end, m)
-back_semicolon kind = λ n after v ts m. (at kind n ∷ ts, plain_end refl, m)
+back_semicolon : (c : Scope) (kind : TokenKind) → Leads (at_semicolon kind) (Means (x.OptionalSemicolon c)) kind
+back_semicolon c (k.Sign sign.Semicolon) = λ n after v ts m. (ts, semicolon_end, m)
+back_semicolon c kind = λ n after v ts m. (at kind n ∷ ts, plain_end refl, m)
 
 back_target : (kind : TokenKind) → Leads (at_target kind) (Means x.Target) kind
 back_target (k.Name t) = λ n after v ts m. m (e.Name t) [] v (at (k.Name t) n ∷ ts) refl (prefixed name no_suffix) (name_marks t n ts)
@@ -898,7 +898,7 @@ back x.CloseKey kind h = back_close_key kind
 back x.Assign kind h = back_assign kind
 back (x.Block c) kind h = back_block c kind
 back x.ReturnExprs kind h = back_result kind (not_false (begins_expr kind) [] (x.Expr 1 ∷ x.MoreExprs ∷ []) h)
-back x.OptionalSemicolon kind h = back_semicolon kind
+back (x.OptionalSemicolon c) kind h = back_semicolon c kind
 back x.Target kind h = back_target kind
 back x.Comma kind h = back_comma kind
 back (x.Then c) kind h = back_then c kind
@@ -1028,7 +1028,7 @@ back_last (x.Suffix w_ p) = back_last_suffix w_ p
 back_last (x.Block c) = λ after v m. ([], None, [], end_block tt, subst (λ ss. after (part.Block (block_of ss None) ∷ below v) []) (sym (append-nil (stats v))) m)
 back_last x.ReturnExprs = λ after v m xs u ev.
     ([], [], no_value tt, subst (λ es. after (part.Exprs es ∷ u) []) (sym (append-nil xs)) (subst (λ v. after v []) ev m))
-back_last x.OptionalSemicolon = λ after v m. ([], plain_end tt, m)
+back_last (x.OptionalSemicolon c) = λ after v m. ([], plain_end tt, m)
 back_last (x.LocalMore c) = λ after v m. (
   [],
   [],

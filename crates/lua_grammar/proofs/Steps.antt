@@ -165,9 +165,9 @@ semicolon_leaves : (kind : TokenKind) → is_semicolon kind ≡ false → at_sem
 semicolon_leaves (k.Sign sign.Semicolon) h = cc
 semicolon_leaves _ h = refl
 
-pub semicolon_pops : (s : List Symbol) (v : Parts) (r : Lexemes) → Not is_semicolon r → run (x.OptionalSemicolon ∷ s) v r ≡ run s v r
-semicolon_pops s v [] h = refl
-semicolon_pops s v (t ∷ ts) h = ap (λ a. from (plain a) s v t ts) (semicolon_leaves t.kind h)
+pub semicolon_pops : (c : Scope) (s : List Symbol) (v : Parts) (r : Lexemes) → Not is_semicolon r → run (x.OptionalSemicolon c ∷ s) v r ≡ run s v r
+semicolon_pops c s v [] h = refl
+semicolon_pops c s v (t ∷ ts) h = ap (λ a. from (plain a) s v t ts) (semicolon_leaves t.kind h)
 
 block_leaves : (c : Scope) (kind : TokenKind) → begins_statement kind ≡ false → at_block c kind ≡ pop (act.EndBlock ∷ [])
 block_leaves c (k.Sign sign.Semicolon) h = cc

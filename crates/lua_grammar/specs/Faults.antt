@@ -77,6 +77,7 @@ names_before _ = None
 abbrev pub scope_at : Symbol → Option Scope
 scope_at (x.Block c) = Some c
 scope_at (x.LocalMore c) = Some c
+scope_at (x.OptionalSemicolon c) = Some c
 scope_at (x.Else c) = Some c
 scope_at (x.Do c) = Some c
 scope_at (x.ForStep c) = Some c

@@ -151,7 +151,7 @@ at_block c (k.Word word.If) = shift (act.OpenBranches ∷ []) (x.Expr 1 ∷ x.Th
 at_block c (k.Word word.For) = shift (act.Line ∷ []) (x.For c ∷ x.Block c ∷ [])
 at_block c (k.Word word.Function) = shift [] (x.FunctionName ∷ x.Make act.AssignFunction ∷ x.Block c ∷ [])
 at_block c (k.Word word.Local) = shift [] (x.Local c ∷ [])
-at_block c (k.Word word.Return) = shift (act.OpenExprs ∷ []) (x.ReturnExprs ∷ x.OptionalSemicolon ∷ x.Make act.Return ∷ [])
+at_block c (k.Word word.Return) = shift (act.OpenExprs ∷ []) (x.ReturnExprs ∷ x.OptionalSemicolon c ∷ x.Make act.Return ∷ [])
 at_block c _ = pop (act.EndBlock ∷ [])
 
 abbrev pub at_more_exprs : TokenKind → Act
@@ -291,7 +291,7 @@ act_of x.CloseKey t = at_close_key t
 act_of x.Assign t = at_assign t
 act_of (x.Block c) t = at_block c t
 act_of x.ReturnExprs t = pop []
-act_of x.OptionalSemicolon t = at_semicolon t
+act_of (x.OptionalSemicolon c) t = at_semicolon t
 act_of x.Target t = at_target t
 act_of x.Comma t = at_comma t
 act_of (x.Then c) t = at_then c t
@@ -395,6 +395,6 @@ last_of (x.Suffix place.Expression p) = pop (act.EndSuffixes ∷ [])
 last_of (x.Suffix place.Statement phrase.Call) = pop (act.EndSuffixes ∷ act.Invoke ∷ [])
 last_of (x.Block c) = pop (act.EndBlock ∷ [])
 last_of x.ReturnExprs = pop []
-last_of x.OptionalSemicolon = pop []
+last_of (x.OptionalSemicolon c) = pop []
 last_of (x.LocalMore c) = pop (act.LocalAlone ∷ act.EndBlock ∷ [])
 last_of _ = refuse

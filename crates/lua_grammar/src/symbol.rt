@@ -113,7 +113,8 @@ pub enum Symbol {
     // blocks and statements
     Block(Scope),
     ReturnExprs,
-    OptionalSemicolon,
+    /// The `;` after a `return`, which ends a block of this scope.
+    OptionalSemicolon(Scope),
     Target,
     Comma,
     Then(Scope),
