@@ -1,0 +1,4 @@
+pub mod Levels
+pub mod Targets
+pub mod Fed
+pub mod Answer

@@ -1,0 +1,4 @@
+pub mod Stack
+pub mod Turns
+pub mod Verdicts
+pub mod Answers
