@@ -1,1 +1,2 @@
-pub mod FormLemmas
+pub mod OneReading
+pub mod ParseLemmas

@@ -1,11 +1,12 @@
-//! Reads the scripts that can be run so far: those that log texts, a line each.
+//! Reads a script: its text becomes a tree, or has its first fault.
 #![tactic(auto)]
 
-mod parser;
-mod script;
+mod law;
+mod reader;
 
-pub use parser::{ParseError, parse};
-pub use script::LogScript;
+pub use law::{law_one_reading, law_unexpected_is_first};
+pub use lua_parser::ParseError;
+pub use reader::parse;
 
 #[cfg(test)]
 mod tests;

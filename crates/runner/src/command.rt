@@ -1,14 +1,16 @@
 ghost use Rattle.std.specs.Prelude.{◌≡◌, ◌⊎◌, ◌↔◌, [], true, false, IfOk, IfErr, IfSome, OnOk, map, string_bytes};
 ghost use Rattle.sk_ports.specs.Causes.{Rose};
 ghost use Rattle.sk_types.specs.declared.fault.StartFault.{StartFault};
-ghost use Rattle.runner.specs.Run.{CannotStart, EndsEarly, RunCut, RunWritten, Starts, is_answered, is_early};
+ghost use Rattle.runner.specs.Run.{CannotStart, EndsEarly, IsOtherForm, IsRefused, RunCut, Runs, RunWritten, Starts, is_answered, is_early};
+ghost use Rattle.log_script.specs.Form.{Logs};
 ghost use Rattle.runner.specs.Words.{is_form};
 ghost use Rattle.runner.specs.World.{IsDrained, World, after, opening};
 
 use crate::scripts::read_scripts;
 use crate::words::is_form;
 use crate::world::{LogWorld, run};
-use lua_syntax::{LogScript, ParseError, parse};
+use log_script::{LogError, LogScript, read_log};
+use lua_syntax::{ParseError, parse};
 use sk_ports::{Folder, FolderFault, Gate, Sink, TickSource, find_file, write_all};
 use sk_types::{Bytes, Journal, NoMemory, StartFault, Status, Visit};
 use std::alloc::Global;
@@ -104,10 +106,30 @@ fn load<F: Folder>(alloc: Global, folder: &mut F) -> Result<LogScript, Status>
     let Some(source) = find_file(&scripts, "main.lua") else {
         return Err(Status::NoStart(StartFault::Missing));
     };
-    match parse(alloc, source.as_slice()) {
-        Ok(script) => Ok(script),
+    read_start(alloc, source.as_slice())
+}
+
+/// Reads the start script: its text has to read, and then to be of the form that can be run so far.
+fn read_start(alloc: Global, source: &[u8]) -> Result<LogScript, Status>
+    ensures script { IfOk result (λ texts. Runs source.now texts) }
+    ensures refused { IfErr result (IsRefused source.now) }
+{
+    match parse(alloc, source) {
+        Ok(_) => read_form(alloc, source),
         Err(ParseError::Memory) => Err(Status::Memory),
         Err(ParseError::Fault(fault)) => Err(Status::NoStart(StartFault::Unread(fault))),
+    }
+}
+
+/// Reads what a script logs.
+fn read_form(alloc: Global, source: &[u8]) -> Result<LogScript, Status>
+    ensures script { IfOk result (λ texts. Logs source.now texts) }
+    ensures refused { IfErr result (IsOtherForm source.now) }
+{
+    match read_log(alloc, source) {
+        Ok(script) => Ok(script),
+        Err(LogError::Memory) => Err(Status::Memory),
+        Err(LogError::Fault(fault)) => Err(Status::NoStart(StartFault::Unread(fault))),
     }
 }
 

@@ -9,6 +9,8 @@ mod words;
 mod world;
 
 pub use command::{RunBook, run_command};
+pub use scripts::is_script;
+pub use words::is_form;
 
 #[cfg(test)]
 mod tests;

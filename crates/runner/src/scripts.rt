@@ -44,7 +44,8 @@ fn read_script<F: Folder>(
     Ok(())
 }
 
-fn is_script(name: &str) -> bool
+/// Whether a file of this name is a script: the name ends in `.lua`.
+pub fn is_script(name: &str) -> bool
     ensures { result ≡ is_script name.now }
 {
     name.as_bytes().ends_with(b".lua")

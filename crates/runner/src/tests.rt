@@ -95,16 +95,26 @@ fn no_script_no_run(rt: HostRuntime) -> Result<(), Fail> {
     let left = run(rt.alloc(), &missing)?;
     assert_eq!(rt; left.status, Status::NoStart(StartFault::Missing));
     assert!(rt; left.book.journal.is_empty());
-    let other = Given {
-        script: Some(b"print(1)"),
-        ..GOOD
-    };
-    let fault = SyntaxFault {
-        line: 1,
-        kind: SyntaxKind::NotBuilt,
-    };
-    let left = run(rt.alloc(), &other)?;
-    assert_eq!(rt; left.status, Status::NoStart(StartFault::Unread(fault)));
+    Ok(())
+}
+
+#[test]
+fn a_script_that_cannot_run_has_its_fault(rt: HostRuntime) -> Result<(), Fail> {
+    let cases: [(&[u8], SyntaxKind); 3] = [
+        (b"x = = 1", SyntaxKind::Unexpected),
+        (b"x = 'a", SyntaxKind::OpenString),
+        (b"print(1)", SyntaxKind::NotBuilt),
+    ];
+    for (script, kind) in cases {
+        let given = Given {
+            script: Some(script),
+            ..GOOD
+        };
+        let left = run(rt.alloc(), &given)?;
+        let fault = SyntaxFault { line: 1, kind };
+        assert_eq!(rt; left.status, Status::NoStart(StartFault::Unread(fault)));
+        assert!(rt; left.written.is_empty() && left.book.journal.is_empty());
+    }
     Ok(())
 }
 

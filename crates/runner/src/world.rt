@@ -3,7 +3,7 @@ ghost use Rattle.runner.specs.World.{IsDrained, act, after, log_message, logger_
 
 use crate::logger::push_line;
 use crate::message::{Body, Message};
-use lua_syntax::LogScript;
+use log_script::LogScript;
 use sk_types::{Bytes, Handle, Journal, Kind, NoMemory, Session};
 use std::alloc::Global;
 use std::collections::VecDeque;

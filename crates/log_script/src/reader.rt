@@ -1,5 +1,5 @@
 ghost use Rattle.std.specs.Prelude.{◌≡◌, ◌==◌, ◌↔◌, List, ℕ, length, take_while, IsTrue, IfOk, IfErr, MatchOption};
-ghost use Rattle.lua_syntax.specs.Form.{HasNoLines, IsEnd, IsLine, IsRefused, Lines, NoLine, Reads, is_plain, not_built};
+ghost use Rattle.log_script.specs.Form.{HasNoLines, IsEnd, IsLine, IsRefused, Lines, NoLine, Logs, is_plain, not_built};
 
 use crate::script::LogScript;
 use sk_types::{Bytes, NoMemory, SyntaxFault, SyntaxKind};
@@ -18,28 +18,28 @@ const CLOSING: &[u8] = b"\")";
 
 /// Why a text gave no script.
 #[derive(Clone, Copy, Debug, PartialEq, Eq, Error)]
-pub enum ParseError {
+pub enum LogError {
     #[error("out of memory")]
     Memory,
     #[error("{0}")]
     Fault(SyntaxFault),
 }
 
-impl From<NoMemory> for ParseError {
+impl From<NoMemory> for LogError {
     ghost use Rattle.std.specs.Prelude.{◌≡◌};
-    ghost use Rattle.lua_syntax.specs.declared.parser.ParseError.TheVariants.{Memory};
+    ghost use Rattle.log_script.specs.declared.reader.LogError.TheVariants.{Memory};
 
     ghost from_gives = { λ _ error. error ≡ Memory };
 
-    fn from(_error: NoMemory) -> ParseError {
-        ParseError::Memory
+    fn from(_error: NoMemory) -> LogError {
+        LogError::Memory
     }
 }
 
 /// Reads a script that logs texts: the line that requires `skynet`, and then a line `skynet.error("..")` for each text.
-pub fn parse(alloc: Global, source: &[u8]) -> Result<LogScript, ParseError>
-    ensures read { IfOk result (λ texts. Reads source.now texts) }
-    ensures alone { IfOk result (λ texts. (others : List (List ℕ)) → Reads source.now others → others ≡ texts) }
+pub fn read_log(alloc: Global, source: &[u8]) -> Result<LogScript, LogError>
+    ensures read { IfOk result (λ texts. Logs source.now texts) }
+    ensures alone { IfOk result (λ texts. (others : List (List ℕ)) → Logs source.now others → others ≡ texts) }
     ensures refused { IfErr result (IsRefused source.now) }
 {
     if source.is_empty() {
@@ -55,17 +55,17 @@ pub fn parse(alloc: Global, source: &[u8]) -> Result<LogScript, ParseError>
 }
 
 /// The fault of a text of another form.
-fn not_built() -> ParseError
-    ensures { result ≡ ParseError.Fault not_built }
+fn not_built() -> LogError
+    ensures { result ≡ LogError.Fault not_built }
 {
-    ParseError::Fault(SyntaxFault {
+    LogError::Fault(SyntaxFault {
         line: 1,
         kind: SyntaxKind::NotBuilt,
     })
 }
 
 /// Reads the lines after the first one.
-fn read_lines(alloc: Global, source: &[u8]) -> Result<LogScript, ParseError>
+fn read_lines(alloc: Global, source: &[u8]) -> Result<LogScript, LogError>
     ensures read { IfOk result (λ texts. Lines texts source.now) }
     ensures alone { IfOk result (λ texts. (others : List (List ℕ)) → Lines others source.now → others ≡ texts) }
     ensures refused { IfErr result (HasNoLines source.now) }

@@ -3,8 +3,8 @@ use Rattle.std.specs.Prelude.{◌≡◌, ◌⊎◌, ◌≤◌, ◌==◌, ◌&&�
 use Rattle.std.specs.List.{list_all}
 use Rattle.sk_types.specs.declared.fault.SyntaxFault.{SyntaxFault}
 use Rattle.sk_types.specs.declared.fault.SyntaxKind.TheVariants as kind
-use Rattle.lua_syntax.specs.declared.parser.ParseError.{ParseError}
-use Rattle.lua_syntax.specs.declared.parser.ParseError.TheVariants as error
+use Rattle.log_script.specs.declared.reader.LogError.{LogError}
+use Rattle.log_script.specs.declared.reader.LogError.TheVariants as error
 
 -- local skynet = require "skynet"
 abbrev pub first_line : List ℕ
@@ -44,22 +44,22 @@ Lines [] rest = IsEnd rest
 Lines (text ∷ texts) rest = (more : List ℕ) × IsLine rest text more × Lines texts more
 
 -- the bytes are a script that logs these texts
-abbrev pub Reads : List ℕ → List (List ℕ) → Type 0
-Reads source texts = (length source ≤ 1048576) × (((source ≡ []) × (texts ≡ [])) ⊎ ((rest : List ℕ) × (source ≡ first_line ++ rest) × Lines texts rest))
+abbrev pub Logs : List ℕ → List (List ℕ) → Type 0
+Logs source texts = (length source ≤ 1048576) × (((source ≡ []) × (texts ≡ [])) ⊎ ((rest : List ℕ) × (source ≡ first_line ++ rest) × Lines texts rest))
 
 -- the fault of a text that is no such script
 abbrev pub not_built : SyntaxFault
 not_built = record { line = 1; kind = kind.NotBuilt }
 
 -- a fault comes only where the lines log nothing that can be read
-abbrev pub HasNoLines : List ℕ → ParseError → Type 0
+abbrev pub HasNoLines : List ℕ → LogError → Type 0
 HasNoLines rest error.Memory = Unit {0}
 HasNoLines rest (error.Fault fault) = (fault ≡ not_built) × ((texts : List (List ℕ)) → Lines texts rest → ⊥)
 
 -- a fault comes only where the text is no script
-abbrev pub IsRefused : List ℕ → ParseError → Type 0
+abbrev pub IsRefused : List ℕ → LogError → Type 0
 IsRefused source error.Memory = Unit {0}
-IsRefused source (error.Fault fault) = (fault ≡ not_built) × ((texts : List (List ℕ)) → Reads source texts → ⊥)
+IsRefused source (error.Fault fault) = (fault ≡ not_built) × ((texts : List (List ℕ)) → Logs source texts → ⊥)
 
 -- what the lines of source log is what was found, and then what the rest logs
 pub record Continues (source : List ℕ) (found : List (List ℕ)) (rest : List ℕ) : Type 0 where

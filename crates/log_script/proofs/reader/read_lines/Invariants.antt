@@ -1,6 +1,6 @@
 use Rattle.std.proofs.Common.{length}
-use Rattle.lua_syntax.specs.Form.{Continues}
-use Rattle.lua_syntax.proofs.parser.read_lines.Given as goal
+use Rattle.log_script.specs.Form.{Continues}
+use Rattle.log_script.proofs.reader.read_lines.Given as goal
 
 abbrev pub invariant-loop-text : goal.invariant-loop-text
 invariant-loop-text l = Continues l.source l.texts l.rest

@@ -1,6 +1,6 @@
 use Rattle.std.proofs.Common.{◌∙◌, ap, drop, take}
-use Rattle.lua_syntax.proofs.FormLemmas.{found_line, refused_line}
-use Rattle.lua_syntax.proofs.parser.next_line.Goals as goal
+use Rattle.log_script.proofs.FormLemmas.{found_line, refused_line}
+use Rattle.log_script.proofs.reader.next_line.Goals as goal
 
 pub returns-in_err-rest : goal.returns-in_err-rest
 returns-in_err-rest c =

@@ -7,7 +7,7 @@ use Rattle.std.proofs.Math.Seq.{drop-append_seam, take-append_seam}
 use Rattle.std.proofs.lemmas.List.{append_cancel_left, take-append-drop}
 use Rattle.std.proofs.lemmas.List.Sums.{take_while-cons}
 use Rattle.std.proofs.lemmas.Slice.Eq.{bytes_eq-Decides}
-use Rattle.lua_syntax.specs.Form.{Continues, IsEnd, IsLine, IsPlain, Lines, NoLine, Reads, closing, first_line, is_plain, opening}
+use Rattle.log_script.specs.Form.{Continues, IsEnd, IsLine, IsPlain, Lines, NoLine, Logs, closing, first_line, is_plain, opening}
 
 both_true : (b c : Bool) → (b && c) ≡ true → (b ≡ true) × (c ≡ true)
 both_true true c e = (refl, e)
@@ -143,6 +143,6 @@ lines_refused source rest found c n e texts h = let before = c.back texts h in n
 
 -- a script is its first line and the lines after it
 pub reads_lines : {E : Type 0} (source rest : List ℕ) (read : Result (List (List ℕ)) E) → length source ≤ 1048576 → source ≡ first_line ++ rest
-    → IfOk read (λ texts. Lines texts rest) → IfOk read (λ texts. Reads source texts)
+    → IfOk read (λ texts. Lines texts rest) → IfOk read (λ texts. Logs source texts)
 reads_lines source rest (Ok texts) within e h = (within, inr (rest, e, h))
 reads_lines source rest (Err x) within e h = tt

@@ -1,7 +1,7 @@
 use Rattle.std.proofs.Common.{◌∙◌, ap, sym, ◌++◌}
-use Rattle.lua_syntax.specs.Form.{first_line}
-use Rattle.lua_syntax.proofs.FormLemmas.{begins, reads_lines}
-use Rattle.lua_syntax.proofs.parser.parse.Goals as goal
+use Rattle.log_script.specs.Form.{first_line}
+use Rattle.log_script.proofs.FormLemmas.{begins, reads_lines}
+use Rattle.log_script.proofs.reader.read_log.Goals as goal
 
 pub returns-clause-read : goal.returns-clause-read
 returns-clause-read c =

@@ -1,6 +1,6 @@
 use Rattle.std.proofs.Common.{◌∙◌, ◌++◌, ◌∷◌, [], ap, refl, sym, true≢false}
-use Rattle.lua_syntax.proofs.FormLemmas.{Continues-line, lines_alone, lines_found, lines_refused}
-use Rattle.lua_syntax.proofs.parser.read_lines.Goals as goal
+use Rattle.log_script.proofs.FormLemmas.{Continues-line, lines_alone, lines_found, lines_refused}
+use Rattle.log_script.proofs.reader.read_lines.Goals as goal
 
 pub loop-text-preserved : goal.loop-text-preserved
 loop-text-preserved c =
