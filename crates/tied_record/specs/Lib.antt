@@ -1,0 +1,4 @@
+pub mod Names
+pub mod Halves
+pub mod Tied
+pub mod Answers
