@@ -29,3 +29,15 @@ fn names_leave_with_their_handles(rt: HostRuntime) -> Result<(), Fail> {
     assert!(rt; registry.look(&dest) == Some(Handle(3)));
     Ok(())
 }
+
+#[test]
+fn the_last_handle_is_65535(rt: HostRuntime) -> Result<(), Fail> {
+    let mut registry = Registry::new(rt.alloc());
+    for _ in 0..65_534u32 {
+        assert!(rt; registry.register()?.is_some());
+    }
+    assert!(rt; registry.register()? == Some(Handle(65_535)));
+    assert!(rt; registry.register()?.is_none());
+    assert!(rt; registry.given() == 65_535);
+    Ok(())
+}

@@ -1,0 +1,15 @@
+pub mod Lists
+pub mod Forms
+pub mod Flow
+pub mod Inverts
+pub mod Inboxes
+pub mod Counts
+pub mod Worlds
+pub mod Sessions
+pub mod Journals
+pub mod Table
+pub mod Kept
+pub mod KeptSteps
+pub mod Order
+pub mod Launch
+pub mod Tells

@@ -1,0 +1,9 @@
+pub mod Calls
+pub mod Table
+pub mod Fates
+pub mod Flows
+pub mod Reached
+pub mod Sessions
+pub mod Kept
+pub mod Order
+pub mod Laws
