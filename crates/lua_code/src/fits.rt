@@ -4,23 +4,23 @@ ghost use Rattle.lua_code.specs.Valid.{Slots, Cell, Up, GoesOn, Forward, Pays, C
 use crate::function::{Capture, Function};
 use crate::op::Op;
 
-pub fn has_slots(f: &Function, from: u8, count: u16) -> bool
-    requires { count < 1000 }
+pub fn has_slots(f: &Function, from: u16, count: u32) -> bool
+    requires { count < 100000 }
     ensures { IsTrue result ↔ Slots f.now from count }
 {
-    from as u16 + count <= f.shape().slots
+    from as u32 + count <= f.shape().slots as u32
 }
 
-pub fn has_slot(f: &Function, slot: u8) -> bool
+pub fn has_slot(f: &Function, slot: u16) -> bool
     ensures { IsTrue result ↔ Slots f.now slot 1 }
 {
     has_slots(f, slot, 1)
 }
 
-pub fn has_cell(f: &Function, cell: u8) -> bool
+pub fn has_cell(f: &Function, cell: u16) -> bool
     ensures { IsTrue result ↔ Cell f.now cell }
 {
-    (cell as u16) < f.shape().cells
+    cell < f.shape().cells
 }
 
 pub fn has_up(f: &Function, up: u16) -> bool
@@ -75,28 +75,28 @@ pub fn can_close(code: &[Function], f: &Function, function: u32) -> bool
     }
 }
 
-pub fn one(f: &Function, at: usize, slot: u8) -> bool
+pub fn one(f: &Function, at: usize, slot: u16) -> bool
     requires { at < length f.now.ops }
     ensures { IsTrue result ↔ (Slots f.now slot 1 × GoesOn f.now at) }
 {
     has_slot(f, slot) && goes_on(f, at)
 }
 
-pub fn two(f: &Function, at: usize, to: u8, from: u8) -> bool
+pub fn two(f: &Function, at: usize, to: u16, from: u16) -> bool
     requires { at < length f.now.ops }
     ensures { IsTrue result ↔ (Slots f.now to 1 × Slots f.now from 1 × GoesOn f.now at) }
 {
     has_slot(f, to) && has_slot(f, from) && goes_on(f, at)
 }
 
-pub fn three(f: &Function, at: usize, to: u8, left: u8, right: u8) -> bool
+pub fn three(f: &Function, at: usize, to: u16, left: u16, right: u16) -> bool
     requires { at < length f.now.ops }
     ensures { IsTrue result ↔ (Slots f.now to 1 × Slots f.now left 1 × Slots f.now right 1 × GoesOn f.now at) }
 {
     has_slot(f, to) && has_slot(f, left) && has_slot(f, right) && goes_on(f, at)
 }
 
-pub fn branch(f: &Function, at: usize, from: u8, to: u32) -> bool
+pub fn branch(f: &Function, at: usize, from: u16, to: u32) -> bool
     requires { at < length f.now.ops }
     ensures { IsTrue result ↔ (Slots f.now from 1 × Forward f.now at to × GoesOn f.now at) }
 {
@@ -107,10 +107,10 @@ pub fn compare(f: &Function, at: usize, left: u8, right: u8, to: u32) -> bool
     requires { at < length f.now.ops }
     ensures { IsTrue result ↔ (Slots f.now left 1 × Slots f.now right 1 × Forward f.now at to × GoesOn f.now at) }
 {
-    has_slot(f, left) && has_slot(f, right) && is_forward(f, at, to) && goes_on(f, at)
+    has_slot(f, left as u16) && has_slot(f, right as u16) && is_forward(f, at, to) && goes_on(f, at)
 }
 
-pub fn turn(f: &Function, at: usize, base: u8, pay: u8, to: u32) -> bool
+pub fn turn(f: &Function, at: usize, base: u16, pay: u8, to: u32) -> bool
     requires { at < length f.now.ops }
     ensures { IsTrue result ↔ (Slots f.now base 4 × Pays f.now pay to × GoesOn f.now at) }
 {

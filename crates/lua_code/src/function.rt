@@ -16,14 +16,16 @@ pub enum Constant {
 /// Where a closure takes a cell from as it is made: the frame, or the closure that runs.
 #[derive(Clone, Copy)]
 pub enum Capture {
-    Cell(u8),
+    Cell(u16),
     Up(u16),
 }
 
 /// What a function takes and needs.
 #[derive(Clone, Copy, Debug, PartialEq, Eq)]
 pub struct Shape {
-    pub params: u8,
+    pub params: u16,
+    /// The ticks of an entry: that of the call, and what the body pays before it acts.
+    pub pay: u8,
     /// Whether further arguments are kept for `...`.
     pub has_dots: bool,
     pub slots: u16,
@@ -132,7 +134,7 @@ impl Function {
     }
 }
 
-/// The functions of a chunk; the first is the chunk itself.
+/// The functions of a chunk: in the first a thread begins, and the last is the chunk itself.
 #[derive(Drop)]
 pub struct Code {
     functions: Vec<Function>,

@@ -1,53 +1,59 @@
 use lua_model::{Binary, Unary};
 
 /// One operation. A slot is a place in the frame of the function, a cell one of the frame's cells, and `up` one of the closure's.
-/// A jump names the place that it goes to. `pay` is a count of ticks.
+/// A jump names the place that it goes to. `pay` is a count of ticks. The operations that run most often name the first 256 slots
+/// alone, so that each operation takes 8 bytes; for every one of them there is another that names any slot.
 #[derive(Clone, Copy)]
 pub enum Op {
     Nil {
-        to: u8,
+        to: u16,
     },
     Bool {
-        to: u8,
+        to: u16,
         value: bool,
     },
     Int {
-        to: u8,
+        to: u16,
         value: i32,
     },
     Constant {
-        to: u8,
+        to: u16,
         index: u32,
     },
     Move {
-        to: u8,
-        from: u8,
+        to: u16,
+        from: u16,
     },
 
     /// A new cell with the value of a slot: a local that a closure captures.
     NewCell {
-        cell: u8,
-        from: u8,
+        cell: u16,
+        from: u16,
     },
     GetCell {
-        to: u8,
-        cell: u8,
+        to: u16,
+        cell: u16,
     },
     SetCell {
-        cell: u8,
-        from: u8,
+        cell: u16,
+        from: u16,
     },
     GetUp {
-        to: u8,
+        to: u16,
         up: u16,
     },
     SetUp {
         up: u16,
-        from: u8,
+        from: u16,
     },
     /// A closure of a function of the code.
     Close {
-        to: u8,
+        to: u16,
+        function: u32,
+    },
+    /// A new cell with a closure that may capture this cell too: a local function that names itself.
+    CloseCell {
+        cell: u16,
         function: u32,
     },
 
@@ -78,18 +84,19 @@ pub enum Op {
     },
     Binary {
         op: Binary,
-        to: u8,
-        left: u8,
-        right: u8,
+        to: u16,
+        left: u16,
+        right: u16,
     },
     Unary {
         op: Unary,
-        to: u8,
-        from: u8,
+        to: u16,
+        from: u16,
     },
 
-    /// Pays a tick.
-    Tick,
+    Tick {
+        pay: u8,
+    },
     Jump {
         at: u32,
     },
@@ -100,12 +107,12 @@ pub enum Op {
     },
     /// Goes on where the slot is true, and else jumps.
     Test {
-        from: u8,
+        from: u16,
         at: u32,
     },
     /// Goes on where the slot is false, and else jumps.
     TestNot {
-        from: u8,
+        from: u16,
         at: u32,
     },
     /// Pays and goes on where the comparison holds, and else jumps.
@@ -173,64 +180,83 @@ pub enum Op {
     /// Begins a numeric `for` over the slots base (first, then turns left), base + 1 (limit, then value), base + 2 (step) and base + 3, which the body sees:
     /// pays for the first turn and goes on, or jumps where there is none.
     ForPrep {
-        base: u8,
         pay: u8,
+        base: u16,
         at: u32,
     },
     /// Pays for the next turn and jumps back, or goes on where none is left.
     ForLoop {
-        base: u8,
         pay: u8,
+        base: u16,
         at: u32,
     },
     /// Calls the iterator in the slot base with base + 1 and base + 2; its first `results` values go to base + 3 and on.
     ForCall {
-        base: u8,
-        results: u8,
+        base: u16,
+        results: u16,
     },
     /// Where base + 3 is not nil, it becomes base + 2, and the turn is paid and jumped to; else goes on.
     ForEach {
-        base: u8,
         pay: u8,
+        base: u16,
         at: u32,
     },
 
     /// Calls the slot base with the `args` slots after it; the first `results` values go to base and on.
     Call {
-        base: u8,
-        args: u8,
-        results: u8,
+        base: u16,
+        args: u16,
+        results: u16,
     },
+    /// Calls the slot base with the `args` slots after it; all results are put on top of the lists.
+    CallAll {
+        base: u16,
+        args: u16,
+    },
+    /// Calls a closure in place of the body that runs. Any other value is called as by `CallAll`, and a `ReturnList` follows.
     TailCall {
-        base: u8,
-        args: u8,
+        base: u16,
+        args: u16,
     },
     Return {
-        from: u8,
-        count: u8,
+        from: u16,
+        count: u16,
     },
 
     /// An empty list is put on top of the lists.
     Begin,
     /// The slot's value goes last into the list on top.
     Push {
-        from: u8,
+        from: u16,
     },
     /// The list on top goes to the end of the one below it.
     Append,
     /// The function's further arguments are put on top.
     Dots,
-    /// The first `count` values of the list on top go to slots, filled with nil.
+    /// The first `count` of the function's further arguments go to slots, filled with nil.
+    DotsTo {
+        to: u16,
+        count: u16,
+    },
+    /// The first `count` values of the list on top go to slots, filled with nil; the list is dropped.
     Spread {
-        to: u8,
-        count: u8,
+        to: u16,
+        count: u16,
     },
-    /// Calls the slot with the list on top; the results are put on top.
+    /// The value at a place of the list on top, or nil; the list stays.
+    Item {
+        to: u16,
+        index: u32,
+    },
+    /// Calls the first value of the list on top with the others; the results are put on top. The slots from base on are free.
     CallList {
-        from: u8,
+        base: u16,
     },
+    /// The same in place of the body that runs, as `TailCall`.
     TailCallList {
-        from: u8,
+        base: u16,
     },
     ReturnList,
+    /// The call with which a thread begins: as `CallList`, but no term of a script makes it.
+    Start,
 }

@@ -7,6 +7,7 @@ use std::test::Fail;
 fn shape() -> Shape {
     Shape {
         params: 1,
+        pay: 1,
         has_dots: false,
         slots: 4,
         cells: 1,
@@ -20,16 +21,16 @@ fn a_loop_is_valid(rt: HostRuntime) -> Result<(), Fail> {
     function.add(Op::Constant { to: 0, index: 0 }, 1)?;
     function.add(
         Op::ForPrep {
-            base: 0,
             pay: 2,
+            base: 0,
             at: 3,
         },
         1,
     )?;
     function.add(
         Op::ForLoop {
-            base: 0,
             pay: 2,
+            base: 0,
             at: 2,
         },
         1,

@@ -28,11 +28,14 @@ fn fits(code: &[Function], f: &Function, at: usize, op: Op) -> bool
         Op::Close { to, function } => has_slots(f, to, 1)
             && can_close(code, f, function)
             && goes_on(f, at),
-        Op::Add { to, left, right } => three(f, at, to, left, right),
-        Op::Sub { to, left, right } => three(f, at, to, left, right),
-        Op::Mul { to, left, right } => three(f, at, to, left, right),
-        Op::AddInt { to, left, .. } => two(f, at, to, left),
-        Op::MulInt { to, left, .. } => two(f, at, to, left),
+        Op::CloseCell { cell, function } => has_cell(f, cell)
+            && can_close(code, f, function)
+            && goes_on(f, at),
+        Op::Add { to, left, right } => three(f, at, to as u16, left as u16, right as u16),
+        Op::Sub { to, left, right } => three(f, at, to as u16, left as u16, right as u16),
+        Op::Mul { to, left, right } => three(f, at, to as u16, left as u16, right as u16),
+        Op::AddInt { to, left, .. } => two(f, at, to as u16, left as u16),
+        Op::MulInt { to, left, .. } => two(f, at, to as u16, left as u16),
         Op::Binary {
             to,
             left,
@@ -40,7 +43,7 @@ fn fits(code: &[Function], f: &Function, at: usize, op: Op) -> bool
             ..
         } => three(f, at, to, left, right),
         Op::Unary { to, from, .. } => two(f, at, to, from),
-        Op::Tick => goes_on(f, at),
+        Op::Tick { .. } => goes_on(f, at),
         Op::Jump { at: to } => is_forward(f, at, to),
         Op::Loop { pay, at: to } => pays(f, pay, to),
         Op::Test { from, at: to } => branch(f, at, from, to),
@@ -69,17 +72,17 @@ fn fits(code: &[Function], f: &Function, at: usize, op: Op) -> bool
             at: to,
             ..
         } => compare(f, at, left, right, to),
-        Op::UnlessLessInt { left, at: to, .. } => branch(f, at, left, to),
-        Op::UnlessLessEqualInt { left, at: to, .. } => branch(f, at, left, to),
-        Op::UnlessGreaterInt { left, at: to, .. } => branch(f, at, left, to),
-        Op::UnlessGreaterEqualInt { left, at: to, .. } => branch(f, at, left, to),
-        Op::UnlessEqualInt { left, at: to, .. } => branch(f, at, left, to),
-        Op::UnlessNotEqualInt { left, at: to, .. } => branch(f, at, left, to),
+        Op::UnlessLessInt { left, at: to, .. } => branch(f, at, left as u16, to),
+        Op::UnlessLessEqualInt { left, at: to, .. } => branch(f, at, left as u16, to),
+        Op::UnlessGreaterInt { left, at: to, .. } => branch(f, at, left as u16, to),
+        Op::UnlessGreaterEqualInt { left, at: to, .. } => branch(f, at, left as u16, to),
+        Op::UnlessEqualInt { left, at: to, .. } => branch(f, at, left as u16, to),
+        Op::UnlessNotEqualInt { left, at: to, .. } => branch(f, at, left as u16, to),
         Op::ForPrep { base, at: to, .. } => has_slots(f, base, 4)
             && is_forward(f, at, to)
             && goes_on(f, at),
         Op::ForLoop { base, pay, at: to } => turn(f, at, base, pay, to),
-        Op::ForCall { base, results } => has_slots(f, base, 3 + results as u16)
+        Op::ForCall { base, results } => has_slots(f, base, 3 + results as u32)
             && 0 < results
             && goes_on(f, at),
         Op::ForEach { base, pay, at: to } => turn(f, at, base, pay, to),
@@ -87,19 +90,23 @@ fn fits(code: &[Function], f: &Function, at: usize, op: Op) -> bool
             base,
             args,
             results,
-        } => has_slots(f, base, 1 + args as u16)
-            && has_slots(f, base, results as u16)
+        } => has_slots(f, base, 1 + args as u32)
+            && has_slots(f, base, results as u32)
             && goes_on(f, at),
-        Op::TailCall { base, args } => has_slots(f, base, 1 + args as u16),
-        Op::Return { from, count } => has_slots(f, from, count as u16),
+        Op::CallAll { base, args } => has_slots(f, base, 1 + args as u32) && goes_on(f, at),
+        Op::TailCall { base, args } => has_slots(f, base, 1 + args as u32) && goes_on(f, at),
+        Op::Return { from, count } => has_slots(f, from, count as u32),
         Op::Begin => goes_on(f, at),
         Op::Push { from } => one(f, at, from),
         Op::Append => goes_on(f, at),
         Op::Dots => goes_on(f, at),
-        Op::Spread { to, count } => has_slots(f, to, count as u16) && goes_on(f, at),
-        Op::CallList { from } => one(f, at, from),
-        Op::TailCallList { from } => has_slots(f, from, 1),
+        Op::DotsTo { to, count } => has_slots(f, to, count as u32) && goes_on(f, at),
+        Op::Spread { to, count } => has_slots(f, to, count as u32) && goes_on(f, at),
+        Op::Item { to, .. } => one(f, at, to),
+        Op::CallList { .. } => goes_on(f, at),
+        Op::TailCallList { .. } => goes_on(f, at),
         Op::ReturnList => true,
+        Op::Start => goes_on(f, at),
     }
 }
 
@@ -121,9 +128,8 @@ fn is_whole(f: &Function) -> bool
     let shape = f.shape();
     0 < f.ops().len()
         && f.lines().len() == f.ops().len()
-        && shape.params as u16 <= shape.slots
-        && shape.slots <= 256
-        && shape.cells <= 256
+        && shape.params <= shape.slots
+        && 0 < shape.pay
 }
 
 fn is_valid_function(code: &[Function], f: &Function) -> bool
@@ -143,17 +149,23 @@ fn all_valid(code: &[Function]) -> bool
     true
 }
 
+fn captures_nothing(f: &Function) -> bool
+    ensures { IsTrue result ↔ f.now.captures ≡ [] }
+{
+    f.captures().is_empty()
+}
+
 fn has_chunk(code: &[Function]) -> bool
     ensures { IsTrue result ↔ HasChunk code.now }
 {
-    match code.get(0) {
-        Some(chunk) => chunk.captures().is_empty(),
+    match code.get(code.len().saturating_sub(1)) {
+        Some(chunk) => captures_nothing(chunk),
         None => false,
     }
 }
 
 /// Whether a machine can run this code without a test of its own: each jump, slot, cell, constant and function number is in range,
-/// each path ends in a return, and each jump back pays a tick.
+/// each path ends in a return, and each jump back and each entry of a function pays a tick.
 pub fn valid(code: &Code) -> bool
     ensures { IsTrue result ↔ IsValid code.now }
 {

@@ -1,0 +1,11 @@
+pub mod Machine
+pub mod Moves
+pub mod Calls
+pub mod Loops
+pub mod Exec
+pub mod Scope
+pub mod Stand
+pub mod Serves
+pub mod Measure
+pub mod Run
+pub mod Worked
