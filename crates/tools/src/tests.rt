@@ -97,3 +97,60 @@ fn failed_devices_end_the_call(rt: HostRuntime) -> Result<(), Fail> {
     assert_eq!(rt; written.as_slice(), b"bad.".as_slice());
     Ok(())
 }
+
+const FAULTY: &[(&str, &[u8])] = &[
+    ("01.lua", b"x = $"),
+    ("02.lua", b"x = 'a"),
+    ("03.lua", b"\n[[a"),
+    ("04.lua", b"x = '\\q'"),
+    ("05.lua", b"x = 3.5"),
+    ("06.lua", b"return 1\n/ 2"),
+    ("07.lua", b"x = = 1"),
+    ("08.lua", b"break"),
+    ("09.lua", b"function f()\n return ... end"),
+    ("10.lua", b"goto x"),
+];
+
+const FAULTS: &[u8] = b"01.lua:1: bad byte
+02.lua:1: unfinished string
+03.lua:2: unfinished long string
+04.lua:1: bad escape
+05.lua:1: bad numeral
+06.lua:2: float operator
+07.lua:1: unexpected token
+08.lua:1: break outside a loop
+09.lua:2: vararg outside a vararg function
+10.lua:1: not supported
+";
+
+#[test]
+fn each_fault_has_its_line_and_text(rt: HostRuntime) -> Result<(), Fail> {
+    let given = Given {
+        files: FAULTY,
+        ..GOOD
+    };
+    let (status, written) = check(rt.alloc(), &given)?;
+    let fault = SyntaxFault {
+        line: 1,
+        kind: SyntaxKind::BadByte,
+    };
+    assert_eq!(rt; status, Status::NoStart(StartFault::Unread(fault)));
+    assert_eq!(rt; written.as_slice(), FAULTS);
+    Ok(())
+}
+
+#[test]
+fn a_script_may_be_too_long(rt: HostRuntime) -> Result<(), Fail> {
+    let mut bytes = Vec::new(rt.alloc());
+    bytes.resize(1_048_577, b' ')?;
+    let given = Given {
+        files: &[("long.lua", bytes.as_slice())],
+        ..GOOD
+    };
+    let (_, written) = check(rt.alloc(), &given)?;
+    assert_eq!(rt;
+        written.as_slice(),
+        b"long.lua:1: script too long\n".as_slice()
+    );
+    Ok(())
+}
