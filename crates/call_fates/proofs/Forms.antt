@@ -157,7 +157,7 @@ no_fires Idle h m (inr (inr e)) = e
 no_fires (Ask q) h m (inl e) = absurd (cc)
 no_fires (Ask q) h m (inr e) = e
 
-look_what : (dest : Dest) (what : What) → op_of what ≡ Asks (ask.Look dest) → (found : Option Handle) × (what ≡ did.Look dest found)
+pub look_what : (dest : Dest) (what : What) → op_of what ≡ Asks (ask.Look dest) → (found : Option Handle) × (what ≡ did.Look dest found)
 look_what dest (did.Look d found) e = let same : d ≡ dest = cc in (found, ap (λ z. did.Look z found) same)
 look_what dest (did.Put h m taken) e = absurd (cc)
 look_what dest (did.Launch text args found) e = absurd (cc)

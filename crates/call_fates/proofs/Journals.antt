@@ -198,7 +198,7 @@ module _ {S : Type 0} (way : Way S) (sound : S → Type 0) (lawful : IsLawful wa
   abbrev pub Sum : Call → World S → ℕ → ℕ → ℕ → ℕ → Type 0
   Sum c w n a f v = waiting c w + (held way c w + (on_its_way way c w + (a + (f + v)))) ≡ n
 
-  sum_step : (c : Call) (w : World S) (h : Handle) (r : What × World S) (n a f v : ℕ) → IsFresh way sound w → (x : Acted way w h r) → Sum c w n a f v
+  pub sum_step : (c : Call) (w : World S) (h : Handle) (r : What × World S) (n a f v : ℕ) → IsFresh way sound w → (x : Acted way w h r) → Sum c w n a f v
       → Sum c r.1 (n + makes c r.0) (a + answers c h r.0) (f + fails c h r.0) (v + voids c h (replying_at way (agent w h)) r.0)
   sum_step c w h r n a f v fresh x old =
       let k = changes way sound lawful c w h r fresh.world x in

@@ -38,11 +38,11 @@ at_most_one None = omega arith
 at_most_one (Some s) = omega (arith, fate_one s.fate)
 
 -- what an act moves of one call, in numbers: of W, H, T, R that wait, are held, are sent, are in the caller's inbox
-pub record Moves (W H T R W2 H2 T2 R2 on v a f r b fr sent ref fet : ℕ) : Type 0 where
-  pub waits : W2 + (r + b) ≡ W
-  pub holds : H2 + fr ≡ H + r
-  pub sends : T2 + (sent + ref) ≡ T + (fr + b)
-  pub brings : R2 + fet ≡ R + sent
+pub record Moves (W H T R W' H' T' R' on v a f r b fr sent ref fet : ℕ) : Type 0 where
+  pub waits : W' + (r + b) ≡ W
+  pub holds : H' + fr ≡ H + r
+  pub sends : T' + (sent + ref) ≡ T + (fr + b)
+  pub brings : R' + fet ≡ R + sent
   pub gone : sent + ref ≤ T
   pub settled : a + (f + v) ≡ fet + ref
   pub turned : (on ≡ fr + b) ⊎ ((on ≤ T) × (fr ≡ 0) × (b ≡ 0) × (sent + ref ≡ 0) × (fet ≡ 0))
@@ -52,7 +52,7 @@ is_zero n = grind (arith, nat_tests)
 
 -- with what it is after the act
 abbrev pub After : Option CallState → Option CallState → ℕ → ℕ → ℕ → ℕ → ℕ → ℕ → ℕ → Type 0
-After s s2 W2 H2 T2 R2 a f v = Stands s2 W2 H2 (T2 + R2) (in_state is_answered s + a) (in_state is_failed s + f) (in_state is_void s + v)
+After s s2 W' H' T' R' a f v = Stands s2 W' H' (T' + R') (in_state is_answered s + a) (in_state is_failed s + f) (in_state is_void s + v)
 
 with_last : (f g : Fate) (s : Option CallState) → with_fate f (with_fate g s) ≡ with_fate f s
 with_last f g None = refl
@@ -66,11 +66,11 @@ last_fate zero zero (suc f) r s = rw (is_zero f) (with_last OnItsWay Failed s)
 last_fate zero zero zero (suc r) s = rw (is_zero r) (with_last OnItsWay Held s)
 last_fate zero zero zero zero s = refl
 
-module _ (T R W2 H2 T2 R2 b fr sent ref fet : ℕ) where
+module _ (T R W' H' T' R' b fr sent ref fet : ℕ) where
   -- no call: nothing moves
-  none_moves : (on v a f r : ℕ) → 0 ≡ T + R → Moves 0 0 T R W2 H2 T2 R2 on v a f r b fr sent ref fet → After None None W2 H2 T2 R2 a f v
+  none_moves : (on v a f r : ℕ) → 0 ≡ T + R → Moves 0 0 T R W' H' T' R' on v a f r b fr sent ref fet → After None None W' H' T' R' a f v
   none_moves on v a f r g m = split m.turned where
-    split : ((on ≡ fr + b) ⊎ ((on ≤ T) × (fr ≡ 0) × (b ≡ 0) × (sent + ref ≡ 0) × (fet ≡ 0))) → After None None W2 H2 T2 R2 a f v
+    split : ((on ≡ fr + b) ⊎ ((on ≤ T) × (fr ≡ 0) × (b ≡ 0) × (sent + ref ≡ 0) × (fet ≡ 0))) → After None None W' H' T' R' a f v
     split d = record {
       waits = omega (arith, m.waits);
       holds = omega (arith, m.waits, m.holds);
@@ -82,10 +82,10 @@ module _ (T R W2 H2 T2 R2 b fr sent ref fet : ℕ) where
 
   module _ (x : CallState) where
     abbrev pub Moved : ℕ → ℕ → ℕ → ℕ → ℕ → Type 0
-    Moved on v a f r = Moves (is_waiting x.fate) (is_held x.fate) T R W2 H2 T2 R2 on v a f r b fr sent ref fet
+    Moved on v a f r = Moves (is_waiting x.fate) (is_held x.fate) T R W' H' T' R' on v a f r b fr sent ref fet
 
     abbrev pub To : Fate → ℕ → ℕ → ℕ → Type 0
-    To y a f v = After (Some x) (with_fate y (Some x)) W2 H2 T2 R2 a f v
+    To y a f v = After (Some x) (with_fate y (Some x)) W' H' T' R' a f v
 
     on_way : (on v a f r : ℕ) → is_on_its_way x.fate ≡ T + R → Moved (suc on) v a f r → To OnItsWay a f v
     on_way on v a f r g m = split m.turned where
@@ -141,7 +141,7 @@ module _ (T R W2 H2 T2 R2 b fr sent ref fet : ℕ) where
       void = omega (arith, fate_one x.fate, g, m.waits);
     }
 
-    still : is_on_its_way x.fate ≡ T + R → Moved 0 0 0 0 0 → After (Some x) (Some x) W2 H2 T2 R2 0 0 0
+    still : is_on_its_way x.fate ≡ T + R → Moved 0 0 0 0 0 → After (Some x) (Some x) W' H' T' R' 0 0 0
     still g m = let n = no_turn 0 0 0 0 m in record {
       waits = omega (arith, n.0, n.1, m.waits);
       holds = omega (arith, n.0, n.1, m.holds);
@@ -151,8 +151,8 @@ module _ (T R W2 H2 T2 R2 b fr sent ref fet : ℕ) where
       void = omega arith;
     }
 
-    some_moves : (on v a f r : ℕ) → is_on_its_way x.fate ≡ T + R → Moved on v a f r → After (Some x) (turned_by on (fate_by v a f r (Some x))) W2 H2 T2 R2 a f v
-    some_moves (suc on) v a f r g m = rw (is_zero on) (subst (λ (z : Option CallState). After (Some x) z W2 H2 T2 R2 a f v) (sym (last_fate v a f r (Some x))) (on_way on v a f r g m))
+    some_moves : (on v a f r : ℕ) → is_on_its_way x.fate ≡ T + R → Moved on v a f r → After (Some x) (turned_by on (fate_by v a f r (Some x))) W' H' T' R' a f v
+    some_moves (suc on) v a f r g m = rw (is_zero on) (subst (λ (z : Option CallState). After (Some x) z W' H' T' R' a f v) (sym (last_fate v a f r (Some x))) (on_way on v a f r g m))
     some_moves zero (suc v) a f r g m =
         let l = one_settled 0 (suc v) a f r g m in
         rw (is_zero v) (settles Void 0 (suc v) a f r g m (omega arith) refl (omega (arith, l)) (omega (arith, l)) (omega (arith, l)))
@@ -180,8 +180,8 @@ turns_none (suc on) = rw (is_zero on) refl
 pub fate_none : (on v a f r : ℕ) → turned_by on (fate_by v a f r None) ≡ None
 fate_none on v a f r = ap (turned_by on) (fates_none v a f r) ∙ turns_none on
 
-pub call_moves : (s : Option CallState) (T R W2 H2 T2 R2 on v a f r b fr sent ref fet : ℕ) → in_state is_on_its_way s ≡ T + R
-    → Moves (in_state is_waiting s) (in_state is_held s) T R W2 H2 T2 R2 on v a f r b fr sent ref fet → After s (turned_by on (fate_by v a f r s)) W2 H2 T2 R2 a f v
-call_moves None T R W2 H2 T2 R2 on v a f r b fr sent ref fet g m =
-    subst (λ (z : Option CallState). After None z W2 H2 T2 R2 a f v) (sym (fate_none on v a f r)) (none_moves T R W2 H2 T2 R2 b fr sent ref fet on v a f r g m)
-call_moves (Some x) T R W2 H2 T2 R2 on v a f r b fr sent ref fet g m = some_moves T R W2 H2 T2 R2 b fr sent ref fet x on v a f r g m
+pub call_moves : (s : Option CallState) (T R W' H' T' R' on v a f r b fr sent ref fet : ℕ) → in_state is_on_its_way s ≡ T + R
+    → Moves (in_state is_waiting s) (in_state is_held s) T R W' H' T' R' on v a f r b fr sent ref fet → After s (turned_by on (fate_by v a f r s)) W' H' T' R' a f v
+call_moves None T R W' H' T' R' on v a f r b fr sent ref fet g m =
+    subst (λ (z : Option CallState). After None z W' H' T' R' a f v) (sym (fate_none on v a f r)) (none_moves T R W' H' T' R' b fr sent ref fet on v a f r g m)
+call_moves (Some x) T R W' H' T' R' on v a f r b fr sent ref fet g m = some_moves T R W' H' T' R' b fr sent ref fet x on v a f r g m

@@ -27,9 +27,9 @@ maker_takes : (c : Call) (h : Handle) (what : What) (to : Handle) (m : Message) 
 maker_takes c h what to m e = subst (λ z. (receives c h.0 z ≡ 0) × (bounces c h.0 z ≡ 0)) (sym e) (refl, refl)
 
 -- a made call is new
-made_new : (T R W2 H2 T2 R2 on v a f r b fr sent ref fet : ℕ) (to : Handle) → 0 ≡ T + R → r ≡ 0 → b ≡ 0 → W2 + (r + b) ≡ 1 → H2 + fr ≡ r → T2 + (sent + ref) ≡ T + (fr + b) → R2 + fet ≡ R + sent → sent + ref ≤ T → a + (f + v) ≡ fet + ref
-    → After None (Some (record { callee = to; fate = Waiting })) W2 H2 T2 R2 a f v
-made_new T R W2 H2 T2 R2 on v a f r b fr sent ref fet to g zr zb one two three four gone done = record {
+made_new : (T R W' H' T' R' on v a f r b fr sent ref fet : ℕ) (to : Handle) → 0 ≡ T + R → r ≡ 0 → b ≡ 0 → W' + (r + b) ≡ 1 → H' + fr ≡ r → T' + (sent + ref) ≡ T + (fr + b) → R' + fet ≡ R + sent → sent + ref ≤ T → a + (f + v) ≡ fet + ref
+    → After None (Some (record { callee = to; fate = Waiting })) W' H' T' R' a f v
+made_new T R W' H' T' R' on v a f r b fr sent ref fet to g zr zb one two three four gone done = record {
   waits = omega (arith, zr, zb, one);
   holds = omega (arith, zr, two);
   way = omega (arith, g, zr, zb, two, three, four, gone);

@@ -13,3 +13,10 @@ pub mod KeptSteps
 pub mod Order
 pub mod Launch
 pub mod Tells
+pub mod Given
+pub mod Steady
+pub mod Speaks
+pub mod Homes
+pub mod Orderly
+pub mod Drained
+pub mod Rests

@@ -346,14 +346,14 @@ place_put : (own to g : Handle) (what : What) (m : Message) (b : Bool) → place
 place_put own to g what m b e is = let k : TheInbox g ≡ TheInbox to = sym (ap (λ z. place_of own (op_of z)) is) ∙ e in cc
 
 -- two parts of a journal
-joins : (W0 p t l W1 P T L W2 PP TT LL : List Message) → W0 ++ p ≡ t ++ (l ++ W1) → W1 ++ P ≡ T ++ (L ++ W2) → (l ≡ []) ⊎ (T ≡ []) → PP ≡ p ++ P → TT ≡ t ++ T → LL ≡ l ++ L → W0 ++ PP ≡ TT ++ (LL ++ W2)
-joins W0 p t l W1 P T L W2 PP TT LL one two swap ep et el = rw (ep, et, el) (start ∙ (ap (λ z. t ++ z) (middle swap) ∙ sym (append_assoc t T ((l ++ L) ++ W2)))) where
-  start : W0 ++ (p ++ P) ≡ t ++ (l ++ (T ++ (L ++ W2)))
-  start = sym (append_assoc W0 p P) ∙ (ap (λ z. z ++ P) one ∙ (append_assoc t (l ++ W1) P ∙ ap (λ z. t ++ z) (append_assoc l W1 P ∙ ap (λ z. l ++ z) two)))
+joins : (V p t l W P T L W' PP TT LL : List Message) → V ++ p ≡ t ++ (l ++ W) → W ++ P ≡ T ++ (L ++ W') → (l ≡ []) ⊎ (T ≡ []) → PP ≡ p ++ P → TT ≡ t ++ T → LL ≡ l ++ L → V ++ PP ≡ TT ++ (LL ++ W')
+joins V p t l W P T L W' PP TT LL one two swap ep et el = rw (ep, et, el) (start ∙ (ap (λ z. t ++ z) (middle swap) ∙ sym (append_assoc t T ((l ++ L) ++ W')))) where
+  start : V ++ (p ++ P) ≡ t ++ (l ++ (T ++ (L ++ W')))
+  start = sym (append_assoc V p P) ∙ (ap (λ z. z ++ P) one ∙ (append_assoc t (l ++ W) P ∙ ap (λ z. t ++ z) (append_assoc l W P ∙ ap (λ z. l ++ z) two)))
 
-  middle : (l ≡ []) ⊎ (T ≡ []) → l ++ (T ++ (L ++ W2)) ≡ T ++ ((l ++ L) ++ W2)
-  middle (inl z) = ap (λ y. y ++ (T ++ (L ++ W2))) z ∙ ap (λ y. T ++ ((y ++ L) ++ W2)) (sym z)
-  middle (inr z) = ap (λ y. l ++ (y ++ (L ++ W2))) z ∙ (sym (append_assoc l L W2) ∙ ap (λ y. y ++ ((l ++ L) ++ W2)) (sym z))
+  middle : (l ≡ []) ⊎ (T ≡ []) → l ++ (T ++ (L ++ W')) ≡ T ++ ((l ++ L) ++ W')
+  middle (inl z) = ap (λ y. y ++ (T ++ (L ++ W'))) z ∙ ap (λ y. T ++ ((y ++ L) ++ W')) (sym z)
+  middle (inr z) = ap (λ y. l ++ (y ++ (L ++ W'))) z ∙ (sym (append_assoc l L W') ∙ ap (λ y. y ++ ((l ++ L) ++ W')) (sym z))
 
 -- nothing of a service waits at first
 opening_waits : (s : Handle) (d : ℕ) → 0 < s.0 → waiting_in s (at (empty_inbox ∷ empty_inbox ∷ start_inbox ∷ []) d) ≡ []

@@ -63,15 +63,15 @@ request_no_answer kind.Text e = absurd (cc)
 request_no_answer kind.Response e = absurd (cc)
 request_no_answer kind.Error e = absurd (cc)
 
-and_first : (a b : Bool) → (a && b) ≡ true → a ≡ true
+pub and_first : (a b : Bool) → (a && b) ≡ true → a ≡ true
 and_first true b e = refl
 and_first false b e = absurd (cc)
 
-and_second : (a b : Bool) → (a && b) ≡ true → b ≡ true
+pub and_second : (a b : Bool) → (a && b) ≡ true → b ≡ true
 and_second true b e = e
 and_second false b e = absurd (cc)
 
-same_nat : (x y : ℕ) → (x == y) ≡ true → x ≡ y
+pub same_nat : (x y : ℕ) → (x == y) ≡ true → x ≡ y
 same_nat x y h = grind (arith, nat_tests)
 
 -- the message is a request of this call

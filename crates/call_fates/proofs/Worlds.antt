@@ -92,11 +92,11 @@ services_ok way sound lawful w h (Serves x) what ok there may fits g y e = go (a
       subst (ServiceOk way sound g) (sym p.1) at_g
   go (inr p) = ok.services g y p
 
-services_len : {S : Type 0} (way : Way S) (w : World S) (h : Handle) (a : Agent S) (what : What) → length (services_after way w h a what) ≡ length w.services
+pub services_len : {S : Type 0} (way : Way S) (w : World S) (h : Handle) (a : Agent S) (what : What) → length (services_after way w h a what) ≡ length w.services
 services_len way w h (Times due) what = refl
 services_len way w h (Serves x) what = length-set w.services (h.0 - 1) (service_after way x what)
 
-inboxes_len : {S : Type 0} (w : World S) (h : Handle) (op : Op) (what : What) (after : List InboxState) → AtOne w h op what after ⊎ AtNone w h op after → length after ≡ length w.inboxes
+pub inboxes_len : {S : Type 0} (w : World S) (h : Handle) (op : Op) (what : What) (after : List InboxState) → AtOne w h op what after ⊎ AtNone w h op after → length after ≡ length w.inboxes
 inboxes_len w h op what after (inl p) = ap length p.set ∙ length-set w.inboxes (p.to.0 - 1) p.after
 inboxes_len w h op what after (inr p) = ap length p.kept
 

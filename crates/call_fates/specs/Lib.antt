@@ -7,3 +7,4 @@ pub mod Sessions
 pub mod Kept
 pub mod Order
 pub mod Laws
+pub mod Drained

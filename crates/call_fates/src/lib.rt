@@ -3,6 +3,7 @@
 
 ghost use Rattle.call_fates.specs.Laws.{EachHasOneFate, EachTakenOnce, TableIsTrue};
 ghost use Rattle.call_fates.specs.Order.{InOrder, LaunchSucceeds};
+ghost use Rattle.call_fates.specs.Drained.{EachComesToRest};
 
 mod calls;
 
@@ -22,6 +23,12 @@ pub fn law_once<A: Actor>()
 /// A list of calls that was empty at first and has followed each act tells each call's one fate after every journal.
 pub fn law_table<A: Actor>()
     ensures { TableIsTrue A.way A.sound }
+{}
+
+/// When a run has drained, each call that was made has come to rest: its caller has taken exactly one reply, or its callee
+/// serves on and holds the request, or its caller is over.
+pub fn law_drained<A: Actor>()
+    ensures { EachComesToRest A.way A.sound }
 {}
 
 /// What one service puts to another is taken in that order: the callee has taken a prefix, and the rest was there when it
