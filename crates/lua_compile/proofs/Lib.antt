@@ -1,0 +1,12 @@
+pub mod Kept
+pub mod KeptForms
+pub mod KeptTerms
+pub mod Final
+pub mod ServesForms
+pub mod ServesParts
+pub mod ServesRest
+pub mod ServesTerms
+pub mod Chunk
+pub mod Fit
+pub mod FitForms
+pub mod FitTerms

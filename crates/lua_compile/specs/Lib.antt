@@ -1,0 +1,5 @@
+pub mod Writer
+pub mod Forms
+pub mod Written
+pub mod Laws
+pub mod Worked

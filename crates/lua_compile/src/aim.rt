@@ -1,0 +1,36 @@
+/// Which integers may stay in the operation that takes them.
+#[derive(Clone, Copy)]
+pub enum Room {
+    Nothing,
+    Byte,
+    Word,
+}
+
+/// Where the value of an expression goes.
+#[derive(Clone, Copy)]
+pub enum Aim {
+    /// To this slot.
+    Into(u16),
+    /// Where it stands, or to the first free slot.
+    Anywhere(Room),
+    /// To the label where it is false; the code goes on where it is true.
+    Unless(u32),
+}
+
+/// What an operation takes.
+#[derive(Clone, Copy)]
+pub enum Operand {
+    Slot(u16),
+    Constant(i64),
+}
+
+/// What is wanted of a call.
+#[derive(Clone, Copy)]
+pub enum Want {
+    /// So many values, in slots.
+    Count(u16),
+    /// All values, on top of the lists.
+    AsList,
+    /// They are the results of the function.
+    AsResult,
+}
