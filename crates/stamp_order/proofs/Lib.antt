@@ -1,0 +1,10 @@
+pub mod Lists
+pub mod Order
+pub mod Gathered
+pub mod Registers
+pub mod Changes
+pub mod Births
+pub mod Weave
+pub mod Keys
+pub mod Runs
+pub mod OneList
