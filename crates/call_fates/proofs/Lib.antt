@@ -20,3 +20,4 @@ pub mod Homes
 pub mod Orderly
 pub mod Drained
 pub mod Rests
+pub mod Adding

@@ -46,7 +46,7 @@ module _ {S : Type 0} (way : Way S) (sound : S → Type 0) (lawful : IsLawful wa
   no_call : (q : CallKey) → IsSome (state_at [] q) → ⊥
   no_call q e = cc
 
-  kept_opening : (w : World S) → IsOpening way sound w → IsKept way sound w []
+  pub kept_opening : (w : World S) → IsOpening way sound w → IsKept way sound w []
   kept_opening w o = record {
     fresh = fresh_opening way sound lawful w o;
     waits = λ q. omega (arith, sum q);

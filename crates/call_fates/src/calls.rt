@@ -2,7 +2,7 @@ ghost use Rattle.std.specs.Prelude.{◌≡◌, [], None, IsSome, OnOk, OnErr};
 ghost use Rattle.std.specs.List.{sum_by};
 ghost use Rattle.call_fates.specs.Calls.{one, all_of, asks, replies};
 ghost use Rattle.call_fates.specs.Table.{state_at, Adds, Takes, Replaces, Sets, Becomes};
-ghost use Rattle.call_fates.specs.declared.calls.Fate.TheVariants.{Void, OnItsWay};
+ghost use Rattle.call_fates.specs.declared.calls.Fate.TheVariants.{Waiting as WaitsThere, Void, OnItsWay};
 
 use message::{Held, Message, Waiting};
 use sk_types::{Handle, Kind, NoMemory, Session};
@@ -81,16 +81,17 @@ impl Calls {
     pub fn add(&mut self, key: CallKey, callee: Handle) -> Result<(), NoMemory>
         requires { state_at self.old key ≡ None }
         ensures ok { OnOk result (Adds self.old key callee self.new) }
+        ensures made { OnOk result (Replaces self.old key (record { callee = callee; fate = WaitsThere }) self.new) }
         ensures err { OnErr result (self.new ≡ self.old) }
     {
         let state = CallState {
             callee,
             fate: Fate::Waiting,
         };
-        match self.calls.insert(key, state) {
-            Ok(_) => Ok(()),
-            Err(_) => Err(NoMemory),
-        }
+        let Ok(_) = self.calls.insert(key, state) else {
+            return Err(NoMemory);
+        };
+        Ok(())
     }
 
     /// Takes out what was just added.

@@ -31,7 +31,7 @@ use Rattle.message.specs.declared.place.Service.TheVariants.{Serving, Leaving}
 use Rattle.message.specs.declared.place.Ending.{Ending}
 use Rattle.world_machine.specs.Spots.{Spots, with_spots, in_registry, in_clock, in_inbox_of, asked_at, Gives}
 use Rattle.world_machine.specs.Serving.{MayGet, answered}
-use Rattle.world_machine.specs.Machines.{Did}
+use Rattle.world_machine.specs.Machines.{DidThis}
 use Rattle.world_machine.specs.Launching.{Hears}
 
 -- WHAT IS DONE
@@ -273,15 +273,22 @@ seen F xs h x given is within =
 pub same_service : {A B : Type 0} (F : A → B) (xs : List A) (h : ℕ) (x : A) (b : B) → 0 < h → x ≡ get_or xs (h - 1) x → h ≤ length xs → at (map F xs) h ≡ Some b → F x ≡ b
 same_service F xs h x b given is within there = let e : Some (F x) ≡ Some b = sym (seen F xs h x given is within) ∙ there in cc
 
+-- the request was done, with this answer
+pub record Asked {A M : Type 0} (way : Way M) (f : A → M) (services : List (Service A)) (p p2 : Spots) (due : List (Handle × Session)) (h : Handle) (r : Request) (a : Answer) (next : Service A) : Type 0 where
+  pub done : What × Spots
+  pub asked : asked_at h r p ≡ Some done
+  pub answer : input_of done.0 ≡ Answers a
+  pub did_it : DidThis way (over f (with_spots services p due)) h None (over f (with_spots (slice_set services (h.0 - 1) next) p2 due)) done.0
+
 pub asks_did : {A M : Type 0} (way : Way M) (f : A → M) (services : List (Service A)) (p p2 : Spots) (due : List (Handle × Session)) (h : Handle) (r : Request) (a : Answer) (before next : Service A)
     → 0 < h.0 → h.0 ≤ length services → before ≡ get_or services (h.0 - 1) before → service_ops way (service_over f before) ≡ Asks r ∷ []
     → Gives (asked_at h r p) a p2 → service_over f next ≡ answered way (service_over f before) a
-    → Did way (over f (with_spots services p due)) h None (over f (with_spots (slice_set services (h.0 - 1) next) p2 due))
+    → Asked way f services p p2 due h r a next
 asks_did {A = A} {M = M} way f services p p2 due h r a before next given within is asks gives fed = go (asked_at h r p) refl gives where
   all : List (Service M)
   all = map (service_over f) services
 
-  go : (q : Option (What × Spots)) → asked_at h r p ≡ q → Gives q a p2 → Did way (over f (with_spots services p due)) h None (over f (with_spots (slice_set services (h.0 - 1) next) p2 due))
+  go : (q : Option (What × Spots)) → asked_at h r p ≡ q → Gives q a p2 → Asked way f services p p2 due h r a next
   go None e k = absurd k
   go (Some d) e k =
       let w : World M = with_spots all p due in
@@ -295,7 +302,7 @@ asks_did {A = A} {M = M} way f services p p2 due h r a before next given within 
       let lists : rest ≡ map (service_over f) (slice_set services (h.0 - 1) next) = ap (set_at all h.0) now ∙ sym (map-set (service_over f) services (h.0 - 1) next) in
       let whole : left_by way w h (Serves x) (place_of h (Asks r)) (d.0, info.after) ≡ with_spots (map (service_over f) (slice_set services (h.0 - 1) next)) p2 due =
       info.grows (set_agent (set_place w (place_of h (Asks r)) info.after) h (Serves (service_after way x d.0))) ∙ (sets ∙ (ap (λ l. with_spots l d.1 due) lists ∙ ap (λ q. with_spots (map (service_over f) (slice_set services (h.0 - 1) next)) q due) k.1)) in
-      (d.0, acts ∙ ap (λ v. Some (d.0, v)) whole, sym (info.silent h))
+      record { done = d; asked = e; answer = k.0; did_it = (acts ∙ ap (λ v. Some (d.0, v)) whole, sym (info.silent h)) }
 
 -- an answer is heard by its service alone
 pub hears_it : {A M : Type 0} (way : Way M) (f : A → M) (services : List (Service A)) (p : Spots) (due : List (Handle × Session)) (h : Handle) (a : Answer) (before next : Service A)

@@ -24,7 +24,7 @@ use Rattle.message.specs.declared.place.Service.TheVariants.{Serving, Leaving}
 use Rattle.world_machine.specs.Spots.{Spots, with_spots}
 use Rattle.world_machine.specs.Serving.{IsIdle, IsNamed, ended, taken}
 use Rattle.world_machine.specs.Okay.{ServiceOk}
-use Rattle.world_machine.specs.Machines.{Did}
+use Rattle.world_machine.specs.Machines.{DidThis}
 use Rattle.world_machine.specs.Idling.{IsLineAhead, LineOf}
 use Rattle.world_machine.proofs.Asking.{at_given, agent_serves, seen}
 
@@ -91,20 +91,20 @@ line_taken h i i2 m left l e ahead = go i.status i.waiting e ahead where
 module _ {A M : Type 0} (way : Way M) (f : A → M) (services : List (Service A)) (p : Spots) (due : List (Handle × Session)) (h : Handle) (before : Service A) (i : InboxState)
     (given : 0 < h.0) (within : h.0 ≤ length services) (room : h.0 ≤ length p.inboxes) (is : before ≡ get_or services (h.0 - 1) before) (inbox : i ≡ get_or p.inboxes (h.0 - 1) i) (idle : IsIdle way (service_over f before)) where
   pub ends_did : (next : Service A) (ms : List Message) (i2 : InboxState) → end i.status i.waiting ≡ Some (did.End ms, i2) → service_over f next ≡ ended way (service_over f before) ms
-      → Did way (over f (with_spots services p due)) h None (over f (with_spots (slice_set services (h.0 - 1) next) (inboxes_set p h i2) due))
+      → DidThis way (over f (with_spots services p due)) h None (over f (with_spots (slice_set services (h.0 - 1) next) (inboxes_set p h i2) due)) (did.End ms)
   ends_did next ms i2 e now =
       let all = map (service_over f) services in
       let a = ends way all p due h i given (inbox_there p.inboxes h.0 i given room inbox) (service_over f before) ms i2 (seen (service_over f) services h.0 before given is within) idle e in
       let lists : set_at all h.0 (ended way (service_over f before) ms) ≡ map (service_over f) (slice_set services (h.0 - 1) next) = ap (set_at all h.0) (sym now) ∙ sym (map-set (service_over f) services (h.0 - 1) next) in
-      (did.End ms, a ∙ ap (λ l. Some (did.End ms, with_spots l (inboxes_set p h i2) due)) lists, refl)
+      (a ∙ ap (λ l. Some (did.End ms, with_spots l (inboxes_set p h i2) due)) lists, refl)
 
   pub takes_did : (next : Service A) (m : Message) (left : ℕ) (i2 : InboxState) (l : Option (List ℕ)) → take_first i.status i.waiting ≡ Some (did.Take m left, i2) → service_over f next ≡ taken way (service_over f before) m → IsLineAhead h i l
-      → Did way (over f (with_spots services p due)) h l (over f (with_spots (slice_set services (h.0 - 1) next) (inboxes_set p h i2) due))
+      → DidThis way (over f (with_spots services p due)) h l (over f (with_spots (slice_set services (h.0 - 1) next) (inboxes_set p h i2) due)) (did.Take m left)
   takes_did next m left i2 l e now ahead =
       let all = map (service_over f) services in
       let a = takes way all p due h i given (inbox_there p.inboxes h.0 i given room inbox) (service_over f before) m left i2 (seen (service_over f) services h.0 before given is within) idle e in
       let lists : set_at all h.0 (taken way (service_over f before) m) ≡ map (service_over f) (slice_set services (h.0 - 1) next) = ap (set_at all h.0) (sym now) ∙ sym (map-set (service_over f) services (h.0 - 1) next) in
-      (did.Take m left, a ∙ ap (λ z. Some (did.Take m left, with_spots z (inboxes_set p h i2) due)) lists, line_taken h i i2 m left l e ahead)
+      (a ∙ ap (λ z. Some (did.Take m left, with_spots z (inboxes_set p h i2) due)) lists, line_taken h i i2 m left l e ahead)
 
 -- an inbox is set, and the machine keeps its services
 pub room_kept : (inboxes : List InboxState) (h n : ℕ) (i : InboxState) → n ≡ length inboxes → length (slice_set inboxes h i) ≡ n

@@ -15,7 +15,7 @@ use Rattle.world_machine.proofs.Asking.{seen}
 use Rattle.world_machine.proofs.Lists.{at_set, at_push, at_is}
 use Rattle.world_machine.specs.Opening.{first_handle, second_handle, start_handle}
 
-handle_is : (g h : Handle) → g.0 ≡ h.0 → g ≡ h
+pub handle_is : (g h : Handle) → g.0 ≡ h.0 → g ≡ h
 handle_is g h e = let F : ℕ → Handle = λ k. record { 0 = k } in ap F e
 
 -- one service is replaced by one that is as good

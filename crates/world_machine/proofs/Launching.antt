@@ -17,7 +17,7 @@ use Rattle.message.specs.declared.place.Service.{Service}
 use Rattle.message.specs.declared.place.Service.TheVariants.{Serving, Leaving}
 use Rattle.world_machine.specs.Serving.{MayGet, answered}
 use Rattle.world_machine.specs.Standing.{StandsAt}
-use Rattle.world_machine.specs.Machines.{Did}
+use Rattle.world_machine.specs.Machines.{DidThis}
 use Rattle.world_machine.specs.Launching.{Brings, BringsBy, brought, MayHear, Hears}
 use Rattle.world_machine.specs.declared.served.Stage.TheVariants as stage
 use Rattle.world_machine.proofs.Asking.{next_is, agent_serves, at_given}
@@ -74,7 +74,7 @@ may_hear way w w2 h name args found at_it b =
     record { given = at_it.given; within = still.0; service = at_it.service; there = still.1; may = launch_may way at_it.service name args found at_it.stands }
 
 pub launches_did : {S : Type 0} (way : Way S) (w w2 w3 : World S) (h : Handle) (name : List ℕ) (args : List Datum) (found : Option Handle)
-    → StandsAt way w h (stage.Asks (ask.Launch name args)) → Brings way w name args found w2 → Hears way w2 h (Found found) w3 → Did way w h None w3
+    → StandsAt way w h (stage.Asks (ask.Launch name args)) → Brings way w name args found w2 → Hears way w2 h (Found found) w3 → DidThis way w h None w3 (did.Launch name args found)
 launches_did {S = S} way w w2 w3 h name args found at_it b heard = go (made way w.registry name) refl b where
   x : Service S
   x = at_it.service
@@ -93,13 +93,13 @@ launches_did {S = S} way w w2 w3 h name args found at_it b heard = go (made way 
       ((does_launch w.registry name args (made way w.registry name)).0, AtRegistry (does_launch w.registry name args (made way w.registry name)).1)
       (agent_serves w h at_it.service at_it.given at_it.there) at_it.stands refl refl
 
-  go : (q : Option S) → made way w.registry name ≡ q → BringsBy w args q found w2 → Did way w h None w3
+  go : (q : Option S) → made way w.registry name ≡ q → BringsBy w args q found w2 → DidThis way w h None w3 (did.Launch name args found)
   go None is k =
       let D = λ (z : Option S). act way w h ≡ Some ((does_launch w.registry name args z).0, left_by way w h (Serves at_it.service) (place_of h (Asks (ask.Launch name args))) ((does_launch w.registry name args z).0, AtRegistry (does_launch w.registry name args z).1)) in
       let did_it : act way w h ≡ Some (did.Launch name args None, set_agent w h (Serves (service_after way at_it.service (did.Launch name args None)))) = subst D is acts in
       let now : service_after way at_it.service (did.Launch name args None) ≡ answered way at_it.service (Found found) = launch_after way at_it.service name args None at_it.stands ∙ ap (λ z. answered way at_it.service (Found z)) (sym k.0) in
       let whole : set_agent w h (Serves (service_after way at_it.service (did.Launch name args None))) ≡ w3 = ap (λ y. set_agent w h (Serves y)) now ∙ (ap (λ v. set_agent v h (Serves (answered way at_it.service (Found found)))) (sym k.1) ∙ sym left) in
-      (did.Launch name args None, did_it ∙ ap (λ v. Some (did.Launch name args None, v)) whole, refl)
+      (did_it ∙ (ap (λ v. Some (did.Launch name args None, v)) whole ∙ ap (λ z. Some (did.Launch name args z, w3)) (sym k.0)), refl)
   go (Some s) is k =
       let what : What = did.Launch name args (Some (next_handle w.registry)) in
       let D = λ (z : Option S). act way w h ≡ Some ((does_launch w.registry name args z).0, left_by way w h (Serves at_it.service) (place_of h (Asks (ask.Launch name args))) ((does_launch w.registry name args z).0, AtRegistry (does_launch w.registry name args z).1)) in
@@ -114,4 +114,4 @@ launches_did {S = S} way w w2 w3 h name args found at_it b heard = go (made way 
       let G : List (Service S) → World S = λ l. record { services = l; inboxes = (brought w args s).inboxes; registry = register w.registry; clock = w.clock; due = w.due } in
       let grown : grow_by before args (Some s) ≡ set_agent (brought w args s) h (Serves y) = ap G lists in
       let whole : grow_by before args (way.begins name (next_handle w.registry)) ≡ w3 = ap (grow_by before args) begun ∙ (grown ∙ (ap (λ v. set_agent v h (Serves y)) (sym k.1) ∙ sym left)) in
-      (did.Launch name args (Some (next_handle w.registry)), did_it ∙ ap (λ v. Some (did.Launch name args (Some (next_handle w.registry)), v)) whole, refl)
+      (did_it ∙ (ap (λ v. Some (did.Launch name args (Some (next_handle w.registry)), v)) whole ∙ ap (λ z. Some (did.Launch name args z, w3)) (sym k.0)), refl)

@@ -5,3 +5,6 @@ pub mod Idling
 pub mod Launching
 pub mod Clocking
 pub mod FirstNames
+pub mod Foreseeing
+pub mod Following
+pub mod Running

@@ -1,5 +1,6 @@
 -- Lists whose places count from 1.
-use Rattle.std.proofs.Common.{◌⊎◌, inl, inr, ◌≡◌, ℕ, zero, suc, ◌<◌, ◌≤◌, ◌+◌, ◌-◌, ◌==◌, Bool, true, false, List, [], ◌∷◌, ◌++◌, length, map, Some, None, slice_get, slice_set, if◌then◌else◌, refl, ap, sym, ◌∙◌, subst, arith, length-append}
+use Rattle.std.proofs.Common.{◌⊎◌, inl, inr, ◌≡◌, ℕ, zero, suc, ◌<◌, ◌≤◌, ◌+◌, ◌-◌, ◌==◌, Bool, true, false, List, [], ◌∷◌, ◌++◌, length, map, Option, Some, None, slice_get, slice_set, if◌then◌else◌, refl, ap, sym, ◌∙◌, subst, arith, length-append}
+use Rattle.std.specs.Prelude.{MatchOption}
 use Rattle.std.proofs.lemmas.Bool.Decides.{nat_tests}
 use Rattle.message.specs.Registries.{at, set_at}
 
@@ -22,7 +23,7 @@ get_push (z ∷ xs) (suc j) x y e = go (get_push xs j x y e) where
   go (inl p) = inl (ap suc p.0, p.1)
   go (inr p) = inr p
 
-map_len : {A B : Type 0} (F : A → B) (xs : List A) → length (map F xs) ≡ length xs
+pub map_len : {A B : Type 0} (F : A → B) (xs : List A) → length (map F xs) ≡ length xs
 map_len F [] = refl
 map_len F (x ∷ xs) = ap suc (map_len F xs)
 
@@ -57,3 +58,8 @@ at_push xs g x y e = go (get_push xs (g - 1) x y there.1) where
   go : (((g - 1 ≡ length xs) × (y ≡ x)) ⊎ (slice_get xs (g - 1) ≡ Some y)) → ((g ≡ length xs + 1) × (y ≡ x)) ⊎ (at xs g ≡ Some y)
   go (inl p) = let big2 : 0 < g = there.0 in inl (omega (arith, p.0), p.1)
   go (inr p) = inr (at_back xs g y there.0 p)
+
+-- what is known of what was found
+pub found_some : {X : Type 0} (P : Type 0) (Q : X → Type 0) (q : Option X) (s t : X) → q ≡ Some s → s ≡ t → MatchOption q P Q → Q t
+found_some P Q None s t e e2 m = absurd (cc)
+found_some P Q (Some x) s t e e2 m = let same : x ≡ s = cc in subst Q (same ∙ e2) m

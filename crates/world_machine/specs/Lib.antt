@@ -9,3 +9,5 @@ pub mod Idling
 pub mod Launching
 pub mod Opening
 pub mod Quiet
+pub mod Foreseen
+pub mod Calling

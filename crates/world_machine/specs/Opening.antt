@@ -5,7 +5,7 @@ use Rattle.sk_types.specs.declared.number.Handle.{Handle}
 use Rattle.message.specs.Actors.{Way}
 use Rattle.message.specs.Registries.{Registry}
 use Rattle.message.specs.Worlds.{opening, over, first_names, empty_inbox, start_inbox}
-use Rattle.world_machine.specs.Machines.{Machine}
+use Rattle.world_machine.specs.Machines.{Machine, Run, machine_of}
 use Rattle.world_machine.specs.Spots.{Spots}
 
 -- the logger's handle, the launcher's, and that of the start service
@@ -27,3 +27,7 @@ opening_spots = record { inboxes = empty_inbox ∷ empty_inbox ∷ start_inbox �
 -- the machine is in its opening world, in which the start service begins as its script says; nothing met want of memory
 abbrev pub Opens : {S A : Type 0} → Way S → (A → S) → A → A → List ℕ → Machine A → Type 0
 Opens {S = S} way f logger launcher name m = (s : S) × (way.begins name start_handle ≡ Some s) × (over f m.world ≡ opening (f logger) (f launcher) s) × (m.spent ≡ false)
+
+-- and no call was made yet
+abbrev pub OpensRun : {S A : Type 0} → Way S → (A → S) → A → A → List ℕ → Run A → Type 0
+OpensRun way f logger launcher name r = Opens way f logger launcher name (machine_of r) × (r.calls ≡ [])

@@ -4,9 +4,9 @@ ghost use Rattle.message.specs.Worlds.{opening as opening_lem, over};
 ghost use Rattle.world_machine.specs.Opening.{first_handle, second_handle, start_handle, Opens, opening_spots, opening_registry as registry_lem};
 ghost use Rattle.world_machine.specs.Spotted.{spots};
 
+use crate::engine::{Engine, first_message};
 use crate::places::Places;
 use crate::served::Served;
-use crate::world::{World, first_message};
 use handle_names::Registry;
 use message::{Actor, Body, InboxState, InboxStatus, Maker, Service, Waiting};
 use sk_types::{Bytes, Handle, NoMemory};
@@ -14,7 +14,7 @@ use std::alloc::Global;
 use std::collections::VecDeque;
 use timer_wheel::Timers;
 
-impl<A: Actor + Drop> World<A> {
+impl<A: Actor + Drop> Engine<A> {
     /// The world before the first act: the logger, the launcher, and the start service, whose first message waits. None
     /// where the maker makes no service of `start`.
     pub fn opening<M: Maker<A>>(
@@ -23,7 +23,7 @@ impl<A: Actor + Drop> World<A> {
         logger: A,
         launcher: A,
         start: &Bytes,
-    ) -> Result<Option<World<A>>, NoMemory>
+    ) -> Result<Option<Engine<A>>, NoMemory>
         requires logger { Begins A.way A.sound first_handle (A.meaning logger) }
         requires launcher { Begins A.way A.sound second_handle (A.meaning launcher) }
         ensures { IfOk result (λ made. MatchOption made (A.way.begins start.now start_handle ≡ None) (λ w. Opens A.way A.meaning logger launcher start.now w)) }
@@ -37,7 +37,7 @@ impl<A: Actor + Drop> World<A> {
         services.push_reserved(Service::Serving(Served::new(logger)));
         services.push_reserved(Service::Serving(Served::new(launcher)));
         services.push_reserved(Service::Serving(Served::new(first)));
-        Ok(Some(World::of(alloc, services, places)))
+        Ok(Some(Engine::of(alloc, services, places)))
     }
 }
 

@@ -2,7 +2,7 @@ ghost use Rattle.std.specs.Prelude.{◌≡◌, IfOk};
 ghost use Rattle.message.specs.Actors.{Fits};
 ghost use Rattle.message.specs.declared.request.Next.TheVariants.{Idle};
 
-use message::{Actor, HeldList, Input, Next, Request};
+use message::{Actor, Held, HeldList, Input, Next, Request};
 use sk_types::NoMemory;
 use std::marker::Model;
 
@@ -50,6 +50,13 @@ impl<A: Actor + Drop> Served<A> {
         ensures { result.now ≡ A.way.next (A.meaning self.now) }
     {
         &self.next
+    }
+
+    /// The request whose reply the actor is sending.
+    pub fn reply(&self) -> Option<Held>
+        ensures { result ≡ A.way.reply (A.meaning self.now) }
+    {
+        self.actor.reply()
     }
 
     pub fn into_actor(self) -> A

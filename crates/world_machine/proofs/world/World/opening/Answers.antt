@@ -1,18 +1,12 @@
-use Rattle.std.proofs.Common.{length, ap, ◌∙◌}
-use Rattle.world_machine.specs.Spots.{Spots}
-use Rattle.world_machine.specs.Opening.{start_handle}
-use Rattle.world_machine.proofs.Keeping.{begun_ok, begins_ok, machine_three}
+use Rattle.std.proofs.Common.{refl}
+use Rattle.world_machine.specs.Opening.{Opens}
+use Rattle.world_machine.proofs.Lists.{found_some}
+use Rattle.world_machine.proofs.Running.{opens_kept}
 use Rattle.world_machine.proofs.world.World.opening.Goals as goal
 
-pub of-requires : goal.of-requires
-of-requires g c =
+pub invariant_of-result : goal.invariant_of-result
+invariant_of-result g c =
     let way = g.A.Actor.way in
     let f = g.A.Actor.meaning in
-    let sound = g.A.Actor.sound in
-    machine_three way sound f c.new.result c.new-2.result c.new-3.result c.reserve.new.self.items c.push_reserved.new.self.items c.push_reserved-2.new.self.items c.push_reserved-3.new.self.items
-    (length c.in_ok-places.places.inboxes.items) (length c.in_ok-places.places.registry.listed)
-    (c.in_ok-reserve.ensures.items ∙ c.new-services.ensures.items) c.push_reserved.ensures.items c.push_reserved-2.ensures.items c.push_reserved-3.ensures.items
-    (ap (λ (z : Spots). length z.inboxes) c.in_ok-places.ensures) (ap (λ (z : Spots). length z.registry.listed) c.in_ok-places.ensures)
-    (begins_ok way sound f c.args.logger c.new.result c.requires.logger c.new.ensures)
-    (begins_ok way sound f c.args.launcher c.new-2.result c.requires.launcher c.new-2.ensures)
-    (begun_ok way sound f g.met.A.Actor.lawful c.args.start.now start_handle c.in_ok-first.field-0 c.in-Some.first c.new-3.result c.in-Some.is c.new-3.ensures c.in_ok-first.ensures)
+    let opens = found_some _ (λ m. Opens way f c.args.logger c.args.launcher c.args.start.now m) c.in_ok-engine.field-0 c.in-Some.engine c.in-Some.engine c.in-Some.is refl c.in_ok-engine.ensures in
+    opens_kept way g.A.Actor.sound g.met.A.Actor.lawful f c.args.logger c.args.launcher c.args.start.now c.in-Some.engine c.new.result c.requires.logger c.requires.launcher opens c.new.ensures
