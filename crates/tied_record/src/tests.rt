@@ -1,6 +1,7 @@
-//! Two agents that act at one place in turn.
+//! Two agents on two threads, and a place under a lock.
 
-ghost use Rattle.std.specs.Prelude.{◌≡◌, []};
+ghost use Rattle.std.specs.Prelude.{◌≡◌, ◌++◌, ◌∷◌, []};
+ghost use Rattle.tie.specs.Rules.{Has};
 ghost use Rattle.tied_record.specs.Tied.{IsMaster};
 
 use crate::{Entered, Naming, OfAgent, OfPlace, TiedRecord, agree, enter, number};
@@ -8,7 +9,9 @@ use message::{Entry, Place, What};
 use sk_types::{Handle, NoMemory, Stamp};
 use std::alloc::Global;
 use std::marker::Brand;
+use std::sync::{Mutex, Wait};
 use std::test::Fail;
+use std::thread::{Threads, join};
 use tie::{Master, Root, Tie};
 
 /// An agent's record, and the master that makes its pairs.
@@ -41,9 +44,6 @@ fn new_agent<B: Naming>(
     }
 }
 
-ghost use Rattle.std.specs.Prelude.{◌++◌, ◌∷◌};
-ghost use Rattle.tie.specs.Rules.{Has};
-
 /// The agent acts at the place.
 fn act<B: Naming>(
     alloc: Global,
@@ -71,26 +71,25 @@ fn act<B: Naming>(
     Ok(entered == Entered::Both)
 }
 
-/// Two agents act at the place in turn, many times.
-fn work<B: Naming>(
+/// The agent acts many times, each time under the place's lock.
+fn work<B: Naming, R: Wait>(
+    rt: &R,
     alloc: Global,
     tie: &Tie<Entry>,
-    one: &mut Agent<B>,
-    two: &mut Agent<B>,
-    place: &mut TiedRecord<B, OfPlace>,
-) -> Result<bool, NoMemory>
+    mut agent: Agent<B>,
+    handle: Handle,
+    place: &Mutex<TiedRecord<B, OfPlace>>,
+) -> Agent<B>
     requires tie { tie.now ≡ B.table }
-    requires own { (1 ≡ one.old.trail.own) × (2 ≡ two.old.trail.own) }
+    requires own { handle.0 ≡ agent.trail.own }
 {
     for count in 0..COUNT {
-        if !act(alloc, tie, one, Handle(1), place, count)? {
-            return Ok(false);
-        }
-        if !act(alloc, tie, two, Handle(2), place, count)? {
-            return Ok(false);
+        match act(alloc, tie, &mut agent, handle, &mut place.lock(rt), count) {
+            Ok(true) => (),
+            _ => return agent,
         }
     }
-    Ok(true)
+    agent
 }
 
 /// How many entries the agents and the place have, where the records agree.
@@ -120,27 +119,34 @@ fn counted<B: Naming>(
     ))
 }
 
-fn two_agents<B: Naming>(
+fn two_agents<B: Naming + Send + Sync, R: Threads + Wait + Sync>(
+    rt: &R,
     alloc: Global,
     tie: &Tie<Entry>,
     mut root: Root<Entry>,
-) -> Result<Option<(usize, usize, usize)>, NoMemory>
+) -> Option<(usize, usize, usize)>
     requires tie { tie.now ≡ B.table }
     requires root { root ≡ record { table = B.table; agents = [] } }
 {
-    let mut one: Agent<B> = new_agent(alloc, tie, &mut root, Handle(1));
-    let mut two: Agent<B> = new_agent(alloc, tie, &mut root, Handle(2));
-    let mut place = TiedRecord::<B, OfPlace>::new(alloc, number(&PLACE));
-    if !work(alloc, tie, &mut one, &mut two, &mut place)? {
-        return Ok(None);
-    }
-    Ok(counted(tie, one, two, place))
+    let one: Agent<B> = new_agent(alloc, tie, &mut root, Handle(1));
+    let two: Agent<B> = new_agent(alloc, tie, &mut root, Handle(2));
+    let place = Mutex::new(TiedRecord::<B, OfPlace>::new(alloc, number(&PLACE)));
+    let (one, two) = join(
+        rt,
+        || -> Agent<B>
+            requires { (tie.now ≡ B.table) × (1 ≡ one.trail.own) }
+        { work(rt, alloc, tie, one, Handle(1), &place) },
+        || -> Agent<B>
+            requires { (tie.now ≡ B.table) × (2 ≡ two.trail.own) }
+        { work(rt, alloc, tie, two, Handle(2), &place) },
+    );
+    counted(tie, one, two, place.into_inner())
 }
 
 #[test]
-fn records_of_two_agents_agree(rt: HostRuntime) -> Result<(), Fail> {
+fn records_of_two_threads_agree(rt: HostRuntime) -> Result<(), Fail> {
     let (tie, root) = Tie::new(rt.alloc())?;
-    let counts = two_agents::<Brand>(rt.alloc(), &tie, root)?;
+    let counts = two_agents::<Brand, HostRuntime>(&rt, rt.alloc(), &tie, root);
     assert_eq!(rt; counts, Some((1000, 1000, 2000)));
     Ok(())
 }

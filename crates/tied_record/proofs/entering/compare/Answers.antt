@@ -1,6 +1,5 @@
-use Rattle.std.proofs.Common.{◌∙◌, ap, sym, false, true, Some, None}
-use Rattle.tied_record.specs.Tied.{at}
-use Rattle.tied_record.proofs.TiedLemmas.{is_here, known_half, met_of, pair_of, tied_again}
+use Rattle.std.proofs.Common.{◌∙◌, ap, sym, false, true}
+use Rattle.tied_record.proofs.TiedLemmas.{is_here, known_half, met_of, pair_of}
 use Rattle.tied_record.proofs.entering.compare.Goals as goal
 
 pub take-first-requires : goal.take-first-requires
