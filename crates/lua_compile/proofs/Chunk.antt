@@ -14,7 +14,8 @@ use Rattle.lua_compile.specs.Written.{body_written, start_routine, opening, chun
 use Rattle.lua_compile.proofs.Kept.{get_front, get_end}
 use Rattle.lua_compile.proofs.KeptTerms.{body_kept}
 use Rattle.lua_compile.proofs.ServesTerms.{body_serves}
-use Rattle.lua_compile.proofs.FitTerms.{done_more, body_fits}
+use Rattle.lua_compile.proofs.FitLoops.{done_more}
+use Rattle.lua_compile.proofs.FitTerms.{body_fits}
 
 last_place : {A : Type 0} (xs : List A) (x : A) → length (xs ++ x ∷ []) - 1 ≡ length xs
 last_place xs x = omega (arith, length-append xs (x ∷ []))

@@ -1,193 +1,44 @@
 -- The code of each term fits the function that it ends up in, and the functions that it makes are valid.
-use Rattle.std.proofs.Common.{◌≡◌, ℕ, zero, suc, ◌+◌, ◌-◌, ◌<◌, ◌≤◌, refl, sym, ap, ◌∙◌, subst, List, [], ◌∷◌, ◌++◌, length, Option, Some, None, arith, Bool, true, false, map, All}
-use Rattle.std.specs.Prelude.{slice_get, not, ◌&&◌, if◌then◌else◌, max, pos, IfSome}
-use Rattle.std.proofs.Math.Nat.{le-max_left, le-max_right}
+use Rattle.std.proofs.Common.{◌≡◌, ℕ, suc, ◌+◌, ◌-◌, ◌<◌, ◌≤◌, refl, sym, ap, ◌∙◌, subst, List, [], ◌∷◌, length, Option, Some, None, arith, true, false}
+use Rattle.std.specs.Prelude.{slice_get, not, ◌&&◌, if◌then◌else◌, pos}
+use Rattle.std.proofs.Math.Nat.{le-max_right}
 use Rattle.std.proofs.lemmas.Option.{slice_get_within}
 use Rattle.lua_tree.specs.Source as source
 use Rattle.lua_tree.specs.Source.{Text, Block, Plain, Returns, Stats, NoStat, MoreStats, Stat, Branches, NoElse, Else, Elseif, Exps, NoExp, MoreExps, Exp, Operands, NoOperand, MoreOperands, Suffixes, NoSuffix, MoreSuffixes, Body, body}
 use Rattle.lua_model.specs.declared.operator.Binary.{Binary}
-use Rattle.lua_meaning.specs.Values.{Link, Both, Either, Strict, link_of, unary_of}
+use Rattle.lua_meaning.specs.Values.{link_of, unary_of}
 use Rattle.lua_meaning.specs.Statements.{variables}
 use Rattle.lua_code.specs.declared.function.Constant.TheVariants as constant
 use Rattle.lua_code.specs.declared.op.Op.{Op}
 use Rattle.lua_code.specs.declared.op.Op.TheVariants as op
 use Rattle.lua_code.specs.Routine.{Routine}
-use Rattle.lua_code.specs.Valid.{Fits, CanClose, CaptureFits, Whole, AllFit, IsValidFunction}
+use Rattle.lua_code.specs.Valid.{Fits, Whole, AllFit, IsValidFunction}
 use Rattle.lua_steps.specs.declared.scope.Known.{Known}
 use Rattle.lua_steps.specs.Machine.{Code}
 use Rattle.lua_steps.specs.Exec.{ops_of, lines_of, constants_of}
-use Rattle.lua_steps.specs.Scope.{Scope, place_of, past}
+use Rattle.lua_steps.specs.Scope.{Scope, place_of}
 use Rattle.lua_steps.specs.Stand.{from_slots}
 use Rattle.lua_steps.specs.Serves.{following}
 use Rattle.lua_compile.specs.declared.aim.Aim.{Aim}
 use Rattle.lua_compile.specs.declared.aim.Aim.TheVariants.{Into, Anywhere, Unless}
 use Rattle.lua_compile.specs.declared.aim.Room.TheVariants.{Nothing, Word}
 use Rattle.lua_compile.specs.declared.aim.Operand.{Operand}
-use Rattle.lua_compile.specs.declared.aim.Operand.TheVariants.{Slot, Constant as Held}
+use Rattle.lua_compile.specs.declared.aim.Operand.TheVariants.{Slot}
 use Rattle.lua_compile.specs.declared.aim.Want.{Want}
 use Rattle.lua_compile.specs.declared.aim.Want.TheVariants as want
-use Rattle.lua_compile.specs.Writer.{Writer, cell_reach, emit, put, labelled, label_of, placed_here, with_constant, lost_if, counted, done, flag, all_known, declare_all, captures_of, seen_inside, begun, resumed, place, placed}
-use Rattle.lua_compile.specs.Forms.{register, settled, differ, int_written, has_room, nils_written, shown, on_slot, is_slot, binary_written, tests, room_for, test_written, unary_slot, so_far, last_settled, linked, link_aim, is_both, all_and, is_many, count, slots_fit, is_only, is_tail, only_shown, suffix_want, called, called_list, where_none, prepay, ticked, ticked_more, paid_before, ticked_twice, only_direct, only_slot, with_targets, directly, jumped, where_else, function_known, close_op, stores_written, numeric_written, generic_written}
+use Rattle.lua_compile.specs.Writer.{Writer, cell_reach, put, labelled, label_of, placed_here, with_constant, lost_if, counted, done, flag, all_known, declare_all, captures_of, seen_inside, begun, resumed, place, placed}
+use Rattle.lua_compile.specs.Forms.{register, settled, differ, int_written, has_room, nils_written, shown, on_slot, is_slot, binary_written, tests, room_for, test_written, unary_slot, so_far, last_settled, link_aim, is_both, all_and, is_many, count, slots_fit, is_only, is_tail, only_shown, suffix_want, called, called_list, where_none, prepay, ticked, ticked_more, paid_before, ticked_twice, only_direct, only_slot, directly, jumped, where_else, function_known, close_op, stores_written, numeric_written, generic_written}
 use Rattle.lua_compile.specs.Written.{exp_written, ands_written, operands_written, suffixes_written, fixed_written, values_written, many_written, list_written, all_written, tail_written, only_written, body_written, block_written, block_known, stats_written, stats_known, stat_written, stat_known, else_written}
 use Rattle.lua_compile.proofs.Kept.{Level, kept_self, kept_emit, get_front, get_end}
-use Rattle.lua_compile.proofs.KeptForms.{K, k_emit, k_put, k_labelled, k_lost, k_counted, k_resumed, k_if, k_settled, k_int, k_nils, k_jumped, k_on, k_unary, k_binary, k_test, k_last, k_none, k_ticked, k_ticked_more, k_ticked_twice, k_stores, k_where_else, k_called, k_called_list, k_declare_all}
+use Rattle.lua_compile.proofs.KeptForms.{k_put, k_labelled, k_lost, k_counted, k_resumed, k_if, k_settled, k_int, k_nils, k_jumped, k_on, k_unary, k_binary, k_test, k_last, k_none, k_ticked, k_ticked_more, k_ticked_twice, k_stores, k_where_else, k_called, k_called_list, k_declare_all}
 use Rattle.lua_compile.proofs.KeptTerms.{on, labelled_three, k_numeric, k_generic, exp_kept, ands_kept, operands_kept, suffixes_kept, fixed_kept, values_kept, many_kept, list_kept, only_kept, body_kept, block_kept, stats_kept, stat_kept, else_kept}
 use Rattle.lua_compile.proofs.Final.{Final, back, label_is}
-use Rattle.lua_compile.proofs.ServesTerms.{three_more, two_more, one_more, get_map, own, same_place, set_long, returned_kept}
-use Rattle.lua_compile.proofs.Fit.{Asks, Fin, fin_back, fin_below, at_end, zero_on}
-use Rattle.lua_compile.proofs.FitForms.{Good, Ahead, Aimed, Leaves, Sees, place_fits, captures_fit, seen_fits, g_emit, g_same, g_settled, g_int, g_aimed, g_true, g_put_in, g_name, g_stores, g_nils, g_on, g_binary, g_test, g_unary, g_last, g_called, g_called_list, g_none, g_ticked, g_ticked_more, g_ticked_twice, g_jumped, g_where_else, g_declare}
-
-aimed_less : (r : Routine) (L : List ℕ) (aim : Aim) (c b : ℕ) → b ≤ c → Aimed r L aim c → Aimed r L aim b
-aimed_less r L (Into s) c b le a = tt
-aimed_less r L (Anywhere room) c b le a = tt
-aimed_less r L (Unless l) c b le a = (omega (arith, a.0), a.1)
-
-leaves_less : (r : Routine) (L : List ℕ) (o : Option ℕ) (c b : ℕ) → b ≤ c → Leaves r L o c → Leaves r L o b
-leaves_less r L None c b le a = tt
-leaves_less r L (Some l) c b le a = (omega (arith, a.0), a.1)
-
-link_aimed : (r : Routine) (L : List ℕ) (lk : Link) (d c : ℕ) → Aimed r L (link_aim lk d) c
-link_aimed r L (Strict u) d c = tt
-link_aimed r L Both d c = tt
-link_aimed r L Either d c = tt
-
--- ---- choices
-fit_if : (X : Writer → Type 0) (G : Writer → Type 0) (b : Bool) (x y : Writer) → X (if b then x else y) → (b ≡ true → X x → G x) → (b ≡ false → X y → G y) → G (if b then x else y)
-fit_if X G true x y h p q = p refl h
-fit_if X G false x y h p q = q refl h
-
-fit_on : (X : Writer → Type 0) (G : Writer → Type 0) (p : Operand) (w : Writer) (go : ℕ → Writer) → X (on_slot p w go) → ((x : ℕ) → X (go x) → G (go x)) → G (lost_if true w) → G (on_slot p w go)
-fit_on X G (Slot x) w go h p q = p x h
-fit_on X G (Held i) w go h p q = q
-
-fit_link : (X : Writer → Type 0) (G : Writer → Type 0) (lk : Link) (x y : Writer) (go : Binary → Writer) → X (linked lk x y go) → (X x → G x) → (X y → G y) → ((u : Binary) → X (go u) → G (go u)) → G (linked lk x y go)
-fit_link X G Both x y go h p q s = p h
-fit_link X G Either x y go h p q s = q h
-fit_link X G (Strict u) x y go h p q s = s u h
-
-fit_targets : (X : Writer → Type 0) (G : Writer → Type 0) (o : Option (List Text)) (w : Writer) (go : List Text → Writer) → X (with_targets o w go) → ((xs : List Text) → X (go xs) → G (go xs)) → G (lost_if true w) → G (with_targets o w go)
-fit_targets X G None w go h p q = q
-fit_targets X G (Some xs) w go h p q = p xs h
-
-fit_directly : (X : Writer → Type 0) (G : Writer → Type 0) (o : Option ℕ) (b : Bool) (x : Writer) (go : ℕ → Writer) → X (directly o b x go) → ((s : ℕ) → X (go s) → G (go s)) → (X x → G x) → G (directly o b x go)
-fit_directly X G None b x go h p q = q h
-fit_directly X G (Some s) b x go h p q = fit_if X G b (go s) x h (λ e y. p s y) (λ e y. q y)
-
--- the functions that are done, and one more
-pub done_more : (P : Routine → Type 0) (xs : List Routine) (h : Routine) → ((k : ℕ) (x : Routine) → slice_get xs k ≡ Some x → P x) → P h → (k : ℕ) (x : Routine) → slice_get (xs ++ h ∷ []) k ≡ Some x → P x
-done_more P [] h all here zero x e = (let s : h ≡ x = cc in subst P s here)
-done_more P [] h all here (suc k) x e = absurd (cc)
-done_more P (y ∷ xs) h all here zero x e = all 0 x e
-done_more P (y ∷ xs) h all here (suc k) x e = done_more P xs h (λ i z q. all (suc i) z q) here k x e
-
--- a closure can be made of a function that captures what these names have
-can_close : (code : Code) (r h : Routine) (names : List Known) (g : ℕ) → slice_get code g ≡ Some h → h.captures ≡ captures_of names → Sees r names → CanClose code r g
-can_close code r h names g there same sees = (
-  slice_get_within code g h there,
-  subst (λ (o : Option Routine). IfSome o (λ x. All (CaptureFits r) x.captures)) (sym there) (subst (λ cs. All (CaptureFits r) cs) (sym same) (captures_fit r names sees)),
-)
-
-length-map : (g : Op → Op) (xs : List Op) → length (map g xs) ≡ length xs
-length-map g [] = refl
-length-map g (x ∷ xs) = ap suc (length-map g xs)
-
--- an operation of the final list is one that was written
-get_placed : (L : List ℕ) (xs : List Op) (k : ℕ) (o : Op) → slice_get (map (placed L) xs) k ≡ Some o → (p : Op) × (slice_get xs k ≡ Some p) × (placed L p ≡ o)
-get_placed L [] k o e = absurd (cc)
-get_placed L (x ∷ xs) zero o e = (x, refl, (let s : placed L x ≡ o = cc in s))
-get_placed L (x ∷ xs) (suc k) o e = get_placed L xs k o e
-
-close_asks : (code : Code) (r : Routine) (L : List ℕ) (k g : ℕ) (sc : Scope) (b : Bool) → CanClose code r g → Asks code r L k (close_op sc b g)
-close_asks code r L k g sc true h = h
-close_asks code r L k g sc false h = h
-
--- a local function's cell is one of the frame's
-function_sees : (r : Routine) (x : Text) (sc : Scope) (b : Bool) (g : ℕ) → cell_reach (close_op sc b g) ≤ r.shape.cells → Sees r sc.names → Sees r (function_known x sc b).names
-function_sees r x sc true g le s = (omega arith, s)
-function_sees r x sc false g le s = (tt, s)
+use Rattle.lua_compile.proofs.ServesLoops.{three_more, two_more, one_more, get_map, own, same_place, set_long, returned_kept}
+use Rattle.lua_compile.proofs.Fit.{Fin, fin_back, fin_below, at_end, zero_on}
+use Rattle.lua_compile.proofs.FitForms.{Good, Ahead, Aimed, Leaves, Sees, place_fits, seen_fits, g_emit, g_same, g_settled, g_int, g_aimed, g_true, g_put_in, g_name, g_stores, g_nils, g_on, g_binary, g_test, g_unary, g_last, g_called, g_called_list, g_none, g_ticked, g_ticked_more, g_ticked_twice, g_jumped, g_where_else, g_declare}
+use Rattle.lua_compile.proofs.FitLoops.{aimed_less, leaves_less, link_aimed, fit_if, fit_on, fit_link, fit_targets, fit_directly, done_more, can_close, length-map, get_placed, close_asks, function_sees, numeric_fits, generic_fits}
 
 module _ (code : Code) where
-  numeric_fits : (f : ℕ) (r : Routine) (L : List ℕ) (x : Text) (sc : Scope) (line m n : ℕ) (w : Writer) (block : Scope → Option ℕ → Writer → Writer)
-      → n ≤ length w.labels → Level w → Fin code f r L n (numeric_written x sc line m block w) → Sees r sc.names → Good code r L w
-      → ((inner : Scope) (out : Option ℕ) (v : Writer) → K v (block inner out v))
-      → ((inner : Scope) (v : Writer) (i : ℕ) → i ≤ length v.labels → Level v → Fin code f r L i (block inner (Some (label_of w)) v) → Ahead r L (label_of w) (block inner (Some (label_of w)) v).at → Sees r inner.names → Good code r L v → Good code r L (block inner (Some (label_of w)) v))
-      → Good code r L (numeric_written x sc line m block w)
-  numeric_fits f r L x sc line m n w block le lv fin sees g keeps serve =
-      let l = label_of w in
-      let s = labelled (labelled w) in
-      let ls : Level s = record { ops = lv.ops; lines = lv.lines } in
-      let o = op.ForPrep (suc m) sc.free l in
-      let a = emit o line s in
-      let v = placed_here (l + 1) a in
-      let inner = all_known (x ∷ []) (past 3 sc) v.flags v.locals in
-      let d = declare_all (x ∷ []) (past 3 sc) v in
-      let kd = k_declare_all v v (x ∷ []) (past 3 sc) (kept_self 0 v) in
-      let b = block inner (Some l) d in
-      let kb = keeps inner (Some l) d in
-      let p = op.ForLoop (suc m) sc.free (l + 1) in
-      let q = put p b in
-      let la = (kept_emit 0 o line s).level ls in
-      let lvv = same_place (l + 1) a la in
-      let ld = kd.level lvv in
-      let lb = kb.level ld in
-      let long : l + 2 ≤ length v.labels = omega (arith, two_more w, set_long (l + 1) a) in
-      let exit : place L l ≡ q.at = label_is code f L n l q fin.final le (omega (arith, long, kd.more, kb.more)) in
-      let fin_q = fin_below code f r L n l (l + 1) q fin (omega arith) (omega (arith, le)) in
-      let fin_b = fin_back code f r L (l + 1) b q fin_q (k_put b b p (kept_self 0 b)) in
-      let fin_d = fin_back code f r L (l + 1) d b fin_b kb in
-      let fin_v = fin_back code f r L (l + 1) v d fin_d kd in
-      let start : place L (l + 1) ≡ a.at = label_is code f L (l + 1) (l + 1) a fin_v.final (omega arith) (omega (arith, two_more w)) in
-      let fin_a = fin_below code f r L (l + 1) (l + 1) (l + 2) a fin_v (omega arith) (omega arith) in
-      let ga = g_emit code f r L (l + 2) o line s ls fin_a (omega (arith, exit, kd.at, kb.at), omega (arith, exit, fin_q.at)) (g_same code f r L w s refl refl g) in
-      let gd = g_declare code f r L (l + 1) (x ∷ []) (past 3 sc) v lvv fin_d sees (g_same code f r L a v refl refl ga) in
-      let gb = serve inner d (l + 1) (omega (arith, long, kd.more)) ld fin_b (omega (arith, exit), omega (arith, exit, fin_q.at)) gd.1 gd.0 in
-      g_same code f r L q (placed_here l q) refl refl (g_emit code f r L (l + 1) p 0 b lb fin_q (omega arith, omega (arith, start, fin_a.at)) gb)
-
-  generic_fits : (f : ℕ) (r : Routine) (L : List ℕ) (xs : List Text) (sc : Scope) (line m n : ℕ) (w : Writer) (block : Scope → Option ℕ → Writer → Writer)
-      → n ≤ length w.labels → Level w → Fin code f r L n (generic_written xs sc line m block w) → Sees r sc.names → Good code r L w
-      → ((inner : Scope) (out : Option ℕ) (v : Writer) → K v (block inner out v))
-      → ((inner : Scope) (v : Writer) (i : ℕ) → i ≤ length v.labels → Level v → Fin code f r L i (block inner (Some (label_of w)) v) → Ahead r L (label_of w) (block inner (Some (label_of w)) v).at → Sees r inner.names → Good code r L v → Good code r L (block inner (Some (label_of w)) v))
-      → Good code r L (generic_written xs sc line m block w)
-  generic_fits f r L xs sc line m n w block le lv fin sees g keeps serve =
-      let l = label_of w in
-      let s = labelled (labelled (labelled w)) in
-      let ls : Level s = record { ops = lv.ops; lines = lv.lines } in
-      let j = op.Jump (l + 1) in
-      let a = put j s in
-      let v = placed_here (l + 2) a in
-      let inner = all_known xs (past 3 sc) v.flags v.locals in
-      let d = declare_all xs (past 3 sc) v in
-      let kd = k_declare_all v v xs (past 3 sc) (kept_self 0 v) in
-      let b = block inner (Some l) d in
-      let kb = keeps inner (Some l) d in
-      let u = placed_here (l + 1) b in
-      let i = max 1 (length xs) in
-      let o = op.ForCall sc.free i in
-      let c = emit o line u in
-      let p = op.ForEach (suc m) sc.free (l + 2) in
-      let q = put p c in
-      let lvv = same_place (l + 2) a ((kept_emit 0 j 0 s).level ls) in
-      let ld = kd.level lvv in
-      let lb = kb.level ld in
-      let lu = same_place (l + 1) b lb in
-      let lc = (kept_emit 0 o line u).level lu in
-      let long : l + 3 ≤ length v.labels = omega (arith, three_more w, set_long (l + 2) a) in
-      let exit : place L l ≡ q.at = label_is code f L n l q fin.final le (omega (arith, long, kd.more, kb.more, set_long (l + 1) b)) in
-      let fin_q = fin_below code f r L n l (l + 1) q fin (omega arith) (omega (arith, le)) in
-      let fin_c = fin_back code f r L (l + 1) c q fin_q (k_put c c p (kept_self 0 c)) in
-      let fin_u = fin_back code f r L (l + 1) u c fin_c (k_emit u u o line (kept_self 0 u)) in
-      let call : place L (l + 1) ≡ b.at = label_is code f L (l + 1) (l + 1) b fin_u.final (omega arith) (omega (arith, long, kd.more, kb.more)) in
-      let fin_b = fin_below code f r L (l + 1) (l + 1) (l + 2) b fin_u (omega arith) (omega arith) in
-      let fin_d = fin_back code f r L (l + 2) d b fin_b kb in
-      let fin_v = fin_back code f r L (l + 2) v d fin_d kd in
-      let start : place L (l + 2) ≡ a.at = label_is code f L (l + 2) (l + 2) a fin_v.final (omega arith) (omega (arith, three_more w)) in
-      let fin_a = fin_below code f r L (l + 2) (l + 2) (l + 3) a fin_v (omega arith) (omega arith) in
-      let ga = g_emit code f r L (l + 3) j 0 s ls fin_a (omega (arith, call, kd.at, kb.at), omega (arith, call, fin_b.at)) (g_same code f r L w s refl refl g) in
-      let gd = g_declare code f r L (l + 2) xs (past 3 sc) v lvv fin_d sees (g_same code f r L a v refl refl ga) in
-      let gb = serve inner d (l + 2) (omega (arith, long, kd.more)) ld fin_b (omega (arith, exit), omega (arith, exit, fin_q.at)) gd.1 gd.0 in
-      let gc = g_emit code f r L (l + 1) o line u lu fin_c (le-max_left 1 (length xs)) (g_same code f r L b u refl refl gb) in
-      g_same code f r L q (placed_here l q) refl refl (g_emit code f r L (l + 1) p 0 c lc fin_q (omega arith, omega (arith, start, fin_a.at)) gc)
-
   mutual
     pub exp_fits : (e : Exp) (f : ℕ) (r : Routine) (L : List ℕ) (sc : Scope) (d : ℕ) (aim : Aim) (w : Writer) (n : ℕ) → n ≤ length w.labels → Level w
         → Fin code f r L n (exp_written e sc d aim w) → Aimed r L aim (exp_written e sc d aim w).at → Sees r sc.names → Good code r L w → Good code r L (exp_written e sc d aim w)
@@ -787,7 +638,7 @@ module _ (code : Code) where
         let gv = exp_fits first f r L sc d (Into d) t n (omega (arith, le, kt.more)) lt fin_v tt sees gt in
         let gu = exp_fits limit f r L sc (d + 1) (Into (d + 1)) v n (omega (arith, le, kt.more, kv.more)) lvv fin_u tt sees gv in
         let gs = g_int code f r L n (d + 2) (pos 1) b u lu fin_s gu in (
-          numeric_fits f r L i sc line (prepay p) n s block (omega (arith, le, kt.more, kv.more, ku.more, ks.more)) (ks.level lu) fin sees gs keeps
+          numeric_fits code f r L i sc line (prepay p) n s block (omega (arith, le, kt.more, kv.more, ku.more, ks.more)) (ks.level lu) fin sees gs keeps
               (λ inner q m le2 lq fi ah se gq. (block_fits p f r L inner (prepay p) (Some (label_of s)) q m le2 lq fi ah se gq).0),
           sees,
         )
@@ -814,7 +665,7 @@ module _ (code : Code) where
         let gv = exp_fits first f r L sc d (Into d) t n (omega (arith, le, kt.more)) lt fin_v tt sees gt in
         let gu = exp_fits limit f r L sc (d + 1) (Into (d + 1)) v n (omega (arith, le, kt.more, kv.more)) lvv fin_u tt sees gv in
         let gs = exp_fits step f r L sc (d + 2) (Into (d + 2)) u n (omega (arith, le, kt.more, kv.more, ku.more)) lu fin_s tt sees gu in (
-          numeric_fits f r L i sc line (prepay p) n s block (omega (arith, le, kt.more, kv.more, ku.more, ks.more)) (ks.level lu) fin sees gs keeps
+          numeric_fits code f r L i sc line (prepay p) n s block (omega (arith, le, kt.more, kv.more, ku.more, ks.more)) (ks.level lu) fin sees gs keeps
               (λ inner q m le2 lq fi ah se gq. (block_fits p f r L inner (prepay p) (Some (label_of s)) q m le2 lq fi ah se gq).0),
           sees,
         )
@@ -829,7 +680,7 @@ module _ (code : Code) where
         let fin_s = fin_back code f r L n s (generic_written xs sc line (prepay p) block s) fin (k_generic s xs sc line (prepay p) block keeps) in
         let fin_t = fin_back code f r L n t s fin_s ks in
         let gs = values_fits es 3 f r L sc sc.free t n (omega (arith, le, kt.more)) lt fin_s sees (g_ticked code f r L n k w lv fin_t g) in (
-          generic_fits f r L xs sc line (prepay p) n s block (omega (arith, le, kt.more, ks.more)) (ks.level lt) fin sees gs keeps
+          generic_fits code f r L xs sc line (prepay p) n s block (omega (arith, le, kt.more, ks.more)) (ks.level lt) fin sees gs keeps
               (λ inner q m le2 lq fi ah se gq. (block_fits p f r L inner (prepay p) (Some (label_of s)) q m le2 lq fi ah se gq).0),
           sees,
         )

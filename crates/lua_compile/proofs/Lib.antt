@@ -5,8 +5,10 @@ pub mod Final
 pub mod ServesForms
 pub mod ServesParts
 pub mod ServesRest
+pub mod ServesLoops
 pub mod ServesTerms
 pub mod Chunk
 pub mod Fit
 pub mod FitForms
+pub mod FitLoops
 pub mod FitTerms
