@@ -1,0 +1,9 @@
+//! Three small services by which a world is tried by hand: a caller, an echo and a killer.
+#![tactic(auto)]
+
+mod player;
+
+pub use player::{Player, Players, Role, Task};
+
+#[cfg(test)]
+mod tests;

@@ -1,0 +1,250 @@
+ghost use Rattle.std.specs.Prelude.{◌≡◌, ◌==◌, false};
+ghost use Rattle.message.specs.Actors.{Begins};
+ghost use Rattle.three_actors.specs.Playing.{state_of, new_player, heard as heard_lem, told as told_lem, calls_now, next_of, text_by, call_by, reply_by};
+ghost use Rattle.three_actors.specs.declared.player.Task.TheVariants as tasks;
+ghost use Rattle.three_actors.specs.Plays.{player_way, player_sound};
+
+use message::{Actor, Answer, Body, Dest, Held, HeldList, Input, Maker, Message, Next, Request};
+use sk_types::{Bytes, Handle, Kind, NoMemory, Session};
+use sqlite_items::Items;
+use std::alloc::Global;
+
+/// What a text rouses a player to.
+#[derive(Clone, Copy, Debug, PartialEq, Eq)]
+pub enum Role {
+    /// It calls the echo, once.
+    Caller,
+    /// It rouses the caller, then the killer.
+    Echo,
+    /// It ends the echo.
+    Killer,
+}
+
+/// What a player is about to do. Each answers every request that it takes.
+#[derive(Clone, Copy, Debug, PartialEq, Eq)]
+pub enum Task {
+    Idle,
+    /// It puts a text to the caller.
+    Rouses,
+    /// It puts a text to the killer.
+    Alarms,
+    /// It looks up the caller of this request.
+    Seeks(Held),
+    /// It puts the reply to this request.
+    Sends(Held),
+    /// It looks up the echo.
+    Looks,
+    /// It puts its call.
+    Calls(Handle),
+    /// The echo is to be listed no more.
+    Retires,
+    /// And its inbox is to close.
+    Marks,
+}
+
+const KILLER: Handle = Handle(1);
+
+const CALLER: Handle = Handle(2);
+
+const ECHO: Handle = Handle(3);
+
+/// One of the three: handle 1 is the killer, 2 the caller, 3 the echo.
+#[derive(Drop)]
+pub struct Player {
+    alloc: Global,
+    own: Handle,
+    role: Role,
+    called: bool,
+    task: Task,
+}
+
+impl Player {
+    pub fn new(alloc: Global, own: Handle, role: Role) -> Player
+        ensures state { state_of result ≡ new_player own role }
+        ensures begins { (own.0 == 0) ≡ false → Begins player_way player_sound own (state_of result) }
+    {
+        Player {
+            alloc,
+            own,
+            role,
+            called: false,
+            task: Task::Idle,
+        }
+    }
+}
+
+impl Actor for Player {
+    ghost use Rattle.three_actors.specs.Playing.{State, state_of};
+    ghost use Rattle.three_actors.specs.Plays.{player_way, player_sound, player_lawful};
+
+    ghost Meaning = { State };
+
+    ghost meaning = { state_of };
+
+    ghost way = { player_way };
+
+    ghost sound = { player_sound };
+
+    ghost lawful = { player_lawful };
+
+    fn feed(&mut self, input: Input) -> Result<Next, NoMemory> {
+        let task = match input {
+            Input::Message(message) => heard(self.role, self.called, &message),
+            Input::Answer(answer) => told(self.task, &answer),
+        };
+        self.called = has_called(self.called, task);
+        self.task = task;
+        Ok(next(self.alloc, self.own, task))
+    }
+
+    fn held(&mut self) -> HeldList {
+        Items::new(self.alloc)
+    }
+
+    fn holds(&self, source: Handle, session: Session) -> bool {
+        let _ = source;
+        let _ = session;
+        false
+    }
+
+    fn reply(&self) -> Option<Held> {
+        match self.task {
+            Task::Seeks(request) => Some(request),
+            Task::Sends(request) => Some(request),
+            _ => None,
+        }
+    }
+}
+
+fn heard(role: Role, called: bool, message: &Message) -> Task
+    ensures { result ≡ heard_lem role called message.now }
+{
+    if message.is_request() {
+        return Task::Seeks(message.held_of());
+    }
+    if !matches!(message.kind, Kind::Text) {
+        return Task::Idle;
+    }
+    match role {
+        Role::Echo => Task::Rouses,
+        Role::Killer => Task::Retires,
+        Role::Caller => { if called { Task::Idle } else { Task::Looks } }
+    }
+}
+
+fn told(task: Task, answer: &Answer) -> Task
+    ensures { result ≡ told_lem task answer.now }
+{
+    match task {
+        Task::Rouses => Task::Alarms,
+        Task::Seeks(request) => sought(request, answer),
+        Task::Looks => looked(answer),
+        Task::Retires => retired(answer),
+        _ => Task::Idle,
+    }
+}
+
+fn sought(request: Held, answer: &Answer) -> Task
+    ensures { result ≡ told_lem (tasks.Seeks request) answer.now }
+{
+    match answer {
+        Answer::Found(Some(_)) => Task::Sends(request),
+        _ => Task::Idle,
+    }
+}
+
+fn looked(answer: &Answer) -> Task
+    ensures { result ≡ told_lem tasks.Looks answer.now }
+{
+    match answer {
+        Answer::Found(Some(handle)) => Task::Calls(*handle),
+        _ => Task::Idle,
+    }
+}
+
+fn retired(answer: &Answer) -> Task
+    ensures { result ≡ told_lem tasks.Retires answer.now }
+{
+    match answer {
+        Answer::Flag(true) => Task::Marks,
+        _ => Task::Idle,
+    }
+}
+
+fn has_called(called: bool, task: Task) -> bool
+    ensures { result ≡ calls_now called task }
+{
+    match task {
+        Task::Calls(_) => true,
+        _ => called,
+    }
+}
+
+fn next(alloc: Global, own: Handle, task: Task) -> Next
+    ensures { result ≡ next_of own task }
+{
+    match task {
+        Task::Idle => Next::Idle,
+        Task::Rouses => Next::Ask(Request::Put(CALLER, text(alloc, own))),
+        Task::Alarms => Next::Ask(Request::Put(KILLER, text(alloc, own))),
+        Task::Seeks(request) => Next::Ask(Request::Look(Dest::Number(request.source.0))),
+        Task::Sends(request) => Next::Ask(Request::Put(request.source, reply(alloc, own, request))),
+        Task::Looks => Next::Ask(Request::Look(Dest::Number(ECHO.0))),
+        Task::Calls(to) => Next::Ask(Request::Put(to, call(alloc, own))),
+        Task::Retires => Next::Ask(Request::Retire(ECHO)),
+        Task::Marks => Next::Ask(Request::Mark(ECHO)),
+    }
+}
+
+fn text(alloc: Global, own: Handle) -> Message
+    ensures { result ≡ text_by own }
+{
+    Message {
+        source: own,
+        session: Session(0),
+        kind: Kind::Text,
+        body: Body::new(alloc),
+    }
+}
+
+fn call(alloc: Global, own: Handle) -> Message
+    ensures { result ≡ call_by own }
+{
+    Message {
+        source: own,
+        session: Session(1),
+        kind: Kind::Lua,
+        body: Body::new(alloc),
+    }
+}
+
+fn reply(alloc: Global, own: Handle, request: Held) -> Message
+    ensures { result ≡ reply_by own request }
+{
+    Message {
+        source: own,
+        session: request.session,
+        kind: Kind::Response,
+        body: Body::new(alloc),
+    }
+}
+
+/// Each name but the empty one is an echo.
+pub struct Players;
+
+impl Maker<Player> for Players {
+    fn make(
+        &self,
+        alloc: Global,
+        name: &Bytes,
+        handle: Handle,
+    ) -> Result<Option<Player>, NoMemory> {
+        if name.as_slice().is_empty() {
+            return Ok(None);
+        }
+        if handle.0 == 0 {
+            return Ok(None);
+        }
+        Ok(Some(Player::new(alloc, handle, Role::Echo)))
+    }
+}
