@@ -20,7 +20,7 @@ use Rattle.three_actors.specs.declared.player.Task.{Task}
 use Rattle.three_actors.specs.declared.player.Task.TheVariants as tasks
 use Rattle.three_actors.specs.declared.player.Player.{Player}
 
--- a state
+-- a player: its handle, what a text rouses it to, whether it has made its call, and what it is about to do
 pub record State : Type 0 where
   pub own : Handle
   pub role : Role

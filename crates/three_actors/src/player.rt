@@ -48,7 +48,8 @@ const CALLER: Handle = Handle(2);
 
 const ECHO: Handle = Handle(3);
 
-/// One of the three: handle 1 is the killer, 2 the caller, 3 the echo.
+/// One of the three. The killer has handle 1 and the caller 2, where skynet has its logger and its launcher; the echo has 3, as the
+/// start script does.
 #[derive(Drop)]
 pub struct Player {
     alloc: Global,
@@ -59,6 +60,7 @@ pub struct Player {
 }
 
 impl Player {
+    /// A player that has this handle, has made no call and is about to do nothing.
     pub fn new(alloc: Global, own: Handle, role: Role) -> Player
         ensures state { state_of result ≡ new_player own role }
         ensures begins { (own.0 == 0) ≡ false → Begins player_way player_sound own (state_of result) }
