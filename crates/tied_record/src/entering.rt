@@ -1,4 +1,6 @@
-ghost use Rattle.std.specs.Prelude.{◌≡◌, true, false, IfOk, IsTrue, OnOk, OnErr};
+ghost use Rattle.std.specs.Prelude.{◌≡◌, true, false, None, Some, IfOk, IsTrue, OnOk, OnErr};
+ghost use Rattle.std.specs.Ordering.{nat_cmp};
+ghost use Rattle.std.specs.BTreeMap.{get};
 ghost use Rattle.tied_record.specs.Answers.{EnteredAs};
 ghost use Rattle.tied_record.specs.Halves.{IsSame, IsSet};
 ghost use Rattle.tied_record.specs.Tied.{Agree, IsMaster, IsTorn, at, entered, meets, number};
@@ -128,10 +130,6 @@ fn make_places(
     remove_place(first, place);
     Err(error)
 }
-
-ghost use Rattle.std.specs.Prelude.{None, Some};
-ghost use Rattle.std.specs.Ordering.{nat_cmp};
-ghost use Rattle.std.specs.BTreeMap.{get};
 
 /// Tells that the record of an agent and that of a place have the same entries of this agent at this place.
 ///

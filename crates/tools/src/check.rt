@@ -1,19 +1,19 @@
-ghost use Rattle.std.specs.Prelude.{◌≡◌, ◌⊎◌, ◌↔◌, false, true, None, Some, IfOk, IfErr, IfSome, map, string_bytes};
+ghost use Rattle.std.specs.Prelude.{◌≡◌, ◌⊎◌, ◌↔◌, ◌++◌, ◌∷◌, [], false, true, None, Some, IfOk, IfErr, IfSome, OnOk, map, string_bytes};
 ghost use Rattle.sk_types.specs.declared.fault.StartFault.TheVariants as start;
 ghost use Rattle.sk_types.specs.declared.fault.SyntaxFault.{SyntaxFault};
 ghost use Rattle.sk_types.specs.declared.status.Status.{Status};
 ghost use Rattle.sk_ports.specs.Causes.{HasFolderCause, Rose};
 ghost use Rattle.sk_ports.specs.Files.{IsListed, file};
 ghost use Rattle.runner.specs.Words.{is_form};
-ghost use Rattle.tools.specs.Report.{Cut, IsReport, IsVerdictOn, Written, is_answered, is_early};
+ghost use Rattle.tools.specs.Report.{Cut, IsReport, IsTrueOf, IsVerdictOn, ReportsAs, Written, is_answered, is_early};
 
 use crate::names::script_names;
 use crate::report::{Verdict, first_fault, report_text};
 use lua_syntax::{ParseError, parse};
 use runner::is_form;
 use sk_ports::{Folder, FolderFault, Sink, write_all};
-use sk_types::{StartFault, Status, SyntaxFault};
-use std::alloc::Global;
+use sk_types::{NoMemory, StartFault, Status, SyntaxFault};
+use std::alloc::{AllocError, Global};
 
 /// Reads each script of a folder, and writes one line for each to `out`, in byte order of the names.
 ///
@@ -96,10 +96,6 @@ fn fault_of(alloc: Global, source: &[u8]) -> Result<Option<SyntaxFault>, NoMemor
     }
 }
 
-ghost use Rattle.tools.specs.Report.{IsTrueOf};
-
-use sk_types::NoMemory;
-
 /// Adds a verdict.
 fn push_verdict(
     alloc: Global,
@@ -113,10 +109,6 @@ fn push_verdict(
     verdicts.push(Verdict { name, fault })?;
     Ok(())
 }
-
-ghost use Rattle.std.specs.Prelude.{◌++◌, ◌∷◌, [], OnOk};
-
-use std::alloc::AllocError;
 
 /// Writes the report.
 fn write_report<S: Sink>(alloc: Global, verdicts: &[Verdict], out: &mut S) -> Status
@@ -133,5 +125,3 @@ fn write_report<S: Sink>(alloc: Global, verdicts: &[Verdict], out: &mut S) -> St
         Err(_) => Status::WriteFault,
     }
 }
-
-ghost use Rattle.tools.specs.Report.{ReportsAs};

@@ -1,6 +1,8 @@
 ghost use Rattle.std.specs.Prelude.{◌≡◌, ℕ, List, map, string_bytes, cond, true, if◌then◌else◌, IfOk, OnOk};
 ghost use Rattle.std.specs.BTreeSet.{contains_text};
+ghost use Rattle.std.specs.List.Sorted.{IsStrictlySortedBy};
 ghost use Rattle.std.specs.Str.{bytes_eq};
+ghost use Rattle.std.specs.String.{string_cmp};
 ghost use Rattle.runner.specs.Scripts.{is_script};
 ghost use Rattle.tools.specs.Report.{AreScripts};
 
@@ -36,6 +38,3 @@ fn in_order(alloc: Global, names: BTreeSet<String>) -> Result<Vec<String>, Alloc
 {
     names.into_iter().collect(alloc)
 }
-
-ghost use Rattle.std.specs.List.Sorted.{IsStrictlySortedBy};
-ghost use Rattle.std.specs.String.{string_cmp};

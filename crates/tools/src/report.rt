@@ -1,5 +1,5 @@
-ghost use Rattle.std.specs.Prelude.{◌≡◌, ◌++◌, IfOk, OnOk};
-ghost use Rattle.tools.specs.Report.{first_fault, line_of, text_of_report};
+ghost use Rattle.std.specs.Prelude.{◌≡◌, ◌++◌, Some, IfOk, OnOk};
+ghost use Rattle.tools.specs.Report.{first_fault, line_of, said, text_of_report};
 
 use itoa::Buffer;
 use sk_types::{Bytes, NoMemory, SyntaxFault};
@@ -57,9 +57,6 @@ fn push_fault(text: &mut Bytes, fault: &SyntaxFault) -> Result<(), NoMemory>
     text.push_slice(fault.kind.text().as_bytes())?;
     Ok(())
 }
-
-ghost use Rattle.std.specs.Prelude.{Some};
-ghost use Rattle.tools.specs.Report.{said};
 
 /// The fault of the first script that does not read.
 pub fn first_fault(verdicts: &[Verdict]) -> Option<SyntaxFault>
