@@ -1,4 +1,4 @@
--- Calls, and where their requests and their replies are.
+-- Calls, and where their requests and their replies are (skynet.call and skynet.ret in skynet.lua).
 use Rattle.std.specs.Prelude.{ℕ, ◌+◌, ◌==◌, ◌&&◌, Bool, true, not, List, [], ◌∷◌, Option, Some, None, cond}
 use Rattle.std.specs.List.{sum_by}
 use Rattle.message.specs.Messages.{is_request, is_answer, held_of}

@@ -1,4 +1,5 @@
--- Calls in a world that has drained: in which no agent has an action, and no timer waits or is due.
+-- Calls in a world that has drained: in which no agent has an action, and no timer waits or is due. That a run drains is this
+-- project's own; skynet runs until it is told to end.
 use Rattle.std.specs.Prelude.{◌≡◌, ◌<◌, ◌⊎◌, true, List, [], Some, Contains}
 use Rattle.message.specs.Actors.{Way}
 use Rattle.message.specs.Registries.{at}

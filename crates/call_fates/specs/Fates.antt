@@ -1,4 +1,5 @@
--- The fate of each call after a journal.
+-- The fate of each call after a journal: answered by a Response, or failed by an Error (raw_dispatch_message and _error_dispatch in
+-- skynet.lua), or still on its way.
 use Rattle.std.specs.Prelude.{ℕ, ◌+◌, true, false, Bool, List, [], ◌∷◌, Option, Some, None, cond}
 use Rattle.std.specs.List.{sum_by}
 use Rattle.message.specs.Ends.{first}

@@ -1,4 +1,4 @@
--- What one act moves of a call, from one fate to the next.
+-- What one act moves of a call, from one fate to the next (skynet.call and skynet.ret in skynet.lua, skynet_send in skynet_server.c).
 use Rattle.std.specs.Prelude.{ℕ, true, false, Option, Some, None}
 use Rattle.std.specs.List.{sum_by}
 use Rattle.message.specs.Actors.{Way, found_caller}

@@ -1,4 +1,4 @@
--- The list of calls, kept in step with the world.
+-- The list of calls, kept in step with the world. It is this project's own.
 use Rattle.std.specs.Prelude.{ℕ, ◌≡◌, ◌+◌, ◌==◌, Option, Some, None, IsSome, cond, List, [], ◌∷◌}
 use Rattle.std.specs.List.{sum_by}
 use Rattle.message.specs.Actors.{Way}

@@ -1,4 +1,4 @@
--- The laws of calls.
+-- The laws of calls: no session is answered twice (session_id_coroutine in skynet.lua).
 use Rattle.std.specs.Prelude.{◌≡◌, ◌≤◌, List, Some, []}
 use Rattle.message.specs.Actors.{Way}
 use Rattle.message.specs.Worlds.{World, after}

@@ -1,4 +1,5 @@
--- The messages between two services, and scripts that are launched.
+-- The messages between two services, which keep their order (skynet_mq_push and skynet_mq_pop in skynet_mq.c), and scripts that are
+-- launched (launcher.lua).
 use Rattle.std.specs.Prelude.{ℕ, ◌≡◌, ◌<◌, ◌+◌, ◌==◌, ◌&&◌, Bool, true, List, [], ◌∷◌, ◌++◌, length, Option, Some, None, if◌then◌else◌}
 use Rattle.std.specs.List.{filter}
 use Rattle.message.specs.Actors.{Way}

@@ -1,4 +1,4 @@
--- Worlds that journals reach.
+-- Worlds that journals reach. They are this project's own.
 use Rattle.std.specs.Prelude.{◌≡◌, length, Some}
 use Rattle.message.specs.Actors.{Way, Begins}
 use Rattle.message.specs.Registries.{at}

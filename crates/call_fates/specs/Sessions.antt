@@ -1,4 +1,4 @@
--- Sessions rise, so no call is made twice.
+-- Sessions rise, so no call is made twice (skynet_context_newsession in skynet_server.c, without its wrap).
 use Rattle.std.specs.Prelude.{ℕ, ◌≡◌, ◌<◌, ◌≤◌, Option, Some, None}
 use Rattle.message.specs.Actors.{Way, drawn}
 use Rattle.message.specs.Registries.{at}

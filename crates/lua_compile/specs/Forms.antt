@@ -1,4 +1,4 @@
--- The forms of code that the compiler chooses among.
+-- The forms of code that the compiler chooses among. They are this project's own.
 use Rattle.std.specs.Prelude.{ℕ, zero, suc, ◌+◌, max, ltb, Bool, true, false, not, ◌&&◌, ◌==◌, if◌then◌else◌, List, [], ◌∷◌, length, Option, Some, None, ℤ, pos, negsuc, int_le}
 use Rattle.lua_tree.specs.Source as source
 use Rattle.lua_tree.specs.Source.{Text, Block, Plain, Returns, NoStat, MoreStats, Exp, Exps, NoExp, MoreExps, Operands, NoOperand, MoreOperands, Suffixes, NoSuffix, MoreSuffixes, Branches, NoElse}

@@ -1,4 +1,4 @@
--- What is true of all compiled code.
+-- What is true of all compiled code: it serves its chunk (manual, chapter 3), and it is valid.
 use Rattle.std.specs.Prelude.{◌≡◌, Bool, false, List}
 use Rattle.lua_tree.specs.Source.{Block}
 use Rattle.lua_code.specs.Valid.{IsValid}

@@ -1,4 +1,5 @@
--- A function that is being written, and what was written before. A jump names a label; labels have their places when the function is done.
+-- A function that is being written, and what was written before. A jump names a label; labels have their places when the function is
+-- done. It is this project's own.
 use Rattle.std.specs.Prelude.{ℕ, ◌+◌, max, Bool, true, ◌||◌, if◌then◌else◌, List, [], ◌∷◌, ◌++◌, length, map, slice_get, slice_set, unwrap_or}
 use Rattle.lua_tree.specs.Source.{Text}
 use Rattle.lua_code.specs.declared.function.Capture.{Capture}

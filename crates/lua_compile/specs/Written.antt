@@ -1,4 +1,4 @@
--- The code of each term, written after what was written before. The slots from d on are free.
+-- The code of each term (manual, sections 3.3 and 3.4), written after what was written before. The slots from d on are free.
 use Rattle.std.specs.Prelude.{ℕ, suc, ◌+◌, ◌-◌, Bool, true, false, not, ◌&&◌, if◌then◌else◌, List, [], ◌∷◌, length, Option, Some, None, pos}
 use Rattle.lua_tree.specs.Source as source
 use Rattle.lua_tree.specs.Source.{Text, Block, Plain, Returns, Stats, NoStat, MoreStats, Stat, Branches, NoElse, Else, Elseif, Exps, NoExp, MoreExps, Exp, Operands, NoOperand, MoreOperands, Suffixes, NoSuffix, MoreSuffixes, Body, body}

@@ -1,4 +1,4 @@
--- Calls and returns.
+-- Calls and returns (manual, sections 3.3.4, 3.4.10 and 3.4.11). The windows of frames over one row are as in ldo.c.
 use Rattle.std.specs.Prelude.{ℕ, zero, suc, ◌+◌, ◌-◌, ltb, Bool, if◌then◌else◌, List, [], ◌∷◌, ◌++◌, length, drop, Option, Some, None, slice_get, replicate}
 use Rattle.lua_value.specs.declared.value.Value.{Value}
 use Rattle.lua_value.specs.declared.value.Value.TheVariants as value

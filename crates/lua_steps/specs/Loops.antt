@@ -1,4 +1,5 @@
--- The loops of `for`. The slots of a numeric loop are: the turns left, the value, the step, and the value that the body sees.
+-- The loops of `for` (manual, section 3.3.5). The slots of a numeric loop are: the turns left, the value, the step, and the value
+-- that the body sees.
 use Rattle.std.specs.Prelude.{ℕ, zero, suc, ◌+◌, Bool, true, false, [], ◌∷◌, Some, ℤ, pos, negsuc}
 use Rattle.std.specs.Int.{w64, cast_signed, cast_unsigned}
 use Rattle.lua_value.specs.declared.value.Value.{Value}

@@ -1,4 +1,5 @@
 -- A machine that runs code, as plain data: frames over one row of values, cells, closures, and what most operations leave as it is.
+-- It is this project's own; a cell is what lfunc.c calls an upvalue that is closed.
 use Rattle.std.specs.Prelude.{ℕ, List}
 use Rattle.lua_value.specs.declared.value.Value.{Value}
 use Rattle.lua_model.specs.Heap as model

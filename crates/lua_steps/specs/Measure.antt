@@ -1,4 +1,4 @@
--- A number that falls with each operation of valid code, so that a run ends.
+-- A number that falls with each operation of valid code, so that a run ends. It is this project's own.
 use Rattle.std.specs.Prelude.{◌≡◌, ℕ, ◌+◌, ◌-◌, ◌*◌, ◌<◌, List, [], ◌∷◌, length}
 use Rattle.lua_code.specs.Valid.{IsValid}
 use Rattle.lua_steps.specs.Machine.{Code, Frame, Resumer, Machine, On}

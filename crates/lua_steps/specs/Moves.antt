@@ -1,4 +1,5 @@
--- What operations have in common: to go on, to read and write slots, to pay ticks and units, to raise, and the end of a thread.
+-- What operations have in common: to go on, to read and write slots, to pay ticks and units, to raise, and the end of a thread
+-- (manual, sections 2.3 and 2.6; ticks and units are this project's own).
 use Rattle.std.specs.Prelude.{ℕ, zero, suc, ◌+◌, ◌-◌, ltb, true, false, if◌then◌else◌, List, [], ◌∷◌, ◌++◌, Option, Some, None, slice_set}
 use Rattle.lua_value.specs.declared.value.Value.{Value}
 use Rattle.lua_value.specs.declared.value.Value.TheVariants as value

@@ -1,4 +1,4 @@
--- Many operations, and what a run gives.
+-- Many operations, and what a run gives. It is this project's own.
 use Rattle.std.specs.Prelude.{ℕ, zero, suc}
 use Rattle.lua_value.specs.declared.value.Value.{Value}
 use Rattle.lua_value.specs.declared.value.Value.TheVariants as value

@@ -1,4 +1,4 @@
--- Where the code of a function finds the values of names.
+-- Where the code of a function finds the values of names (manual, section 3.5).
 use Rattle.std.specs.Prelude.{◌≡◌, ℕ, ◌+◌, if◌then◌else◌, List, [], ◌∷◌, Option, Some, None, slice_get}
 use Rattle.lua_tree.specs.Source.{Text}
 use Rattle.lua_model.specs.Texts.{same_bytes}

@@ -1,4 +1,4 @@
--- Which code serves which term.
+-- Which code serves which term (the terms are those of the manual, sections 3.3 and 3.4).
 --
 -- A relation says what stands in function f from place a on: code for a term, whose scope is sc; the slots from d on are free, and all below
 -- are kept. After it comes a place of which R holds, so that R says what follows. `and`, `or` and tests have more than one such place.

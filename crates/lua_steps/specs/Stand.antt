@@ -1,4 +1,5 @@
--- What stands at places of the code: single operations, and the forms in which a value is shown to the operation that takes it.
+-- What stands at places of the code: single operations, and the forms in which a value is shown to the operation that takes it. They
+-- are this project's own.
 use Rattle.std.specs.Prelude.{◌≡◌, ℕ, zero, suc, ◌+◌, ◌≤◌, ◌⊎◌, List, [], ◌∷◌, length, Option, Some, None, ℤ, neg_ℤ}
 use Rattle.lua_tree.specs.Source.{Text, Operands, NoOperand, MoreOperands}
 use Rattle.lua_model.specs.declared.operator.Binary.{Binary}

@@ -1,4 +1,5 @@
--- Lists of bounces.
+-- Lists of bounces: the error replies that an ended service owes (drop_message in skynet_server.c, skynet_mq_release in
+-- skynet_mq.c).
 use Rattle.std.specs.Prelude.{◌≡◌, true, List, [], ◌∷◌, Option, Some, None}
 use Rattle.sk_types.specs.declared.number.Handle.{Handle}
 use Rattle.sk_types.specs.declared.number.Session.{Session}

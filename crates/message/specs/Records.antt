@@ -1,4 +1,4 @@
--- Records of what was done: one for each agent and one for each place.
+-- Records of what was done: one for each agent and one for each place. They are this project's own; skynet keeps none.
 use Rattle.std.specs.Prelude.{ℕ, ◌≡◌, ◌<◌, List, [], ◌∷◌, Some}
 use Rattle.message.specs.Actors.{Way}
 use Rattle.message.specs.Steps.{Agent, PlaceState, IsOne, ops, op_of, place_of, agent_after, does}

@@ -1,5 +1,5 @@
--- The steps of agents and of places. An agent's next operation says nothing of the places, and a place's answer
--- nothing of the agents; what the answer does to the agent is the third part.
+-- The steps of agents and of places (dispatch_message and skynet_send in skynet_server.c). An agent's next operation says
+-- nothing of the places, and a place's answer nothing of the agents; what the answer does to the agent is the third part.
 use Rattle.std.specs.Prelude.{ℕ, ◌≡◌, nat_lt, Bool, true, false, List, [], ◌∷◌, ◌++◌, length, Option, Some, None, if◌then◌else◌, ◌⊎◌}
 use Rattle.message.specs.Messages.{requests, bounce, timer_message}
 use Rattle.message.specs.Ends.{rest}

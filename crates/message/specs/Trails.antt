@@ -1,4 +1,4 @@
--- A record, as contracts see it.
+-- A record, as contracts see it. It is this project's own.
 use Rattle.std.specs.Prelude.{List, ℕ}
 use Rattle.message.specs.declared.record.Entry.{Entry}
 

@@ -1,4 +1,5 @@
--- The one-thread message machine: all agents and all places, and one action after another.
+-- The one-thread message machine: all agents and all places, and one action after another (skynet_context_message_dispatch and
+-- skynet_send in skynet_server.c, with one worker).
 use Rattle.std.specs.Prelude.{ℕ, ◌≡◌, ◌==◌, Bool, true, false, List, [], ◌∷◌, ◌++◌, map, Option, Some, None, codes}
 use Rattle.std.specs.FinMap as names
 use Rattle.message.specs.Messages.{init_message}

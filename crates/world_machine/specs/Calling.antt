@@ -1,4 +1,4 @@
--- What an act changes in the list of calls, step by step.
+-- What an act changes in the list of calls, step by step (skynet.call and skynet.ret in skynet.lua).
 use Rattle.std.specs.Prelude.{ℕ, ◌≡◌, ◌+◌, Bool, true, false, List, Option, Some, None, if◌then◌else◌}
 use Rattle.std.specs.List.{sum_by}
 use Rattle.sk_types.specs.declared.number.Handle.{Handle}

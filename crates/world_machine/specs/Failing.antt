@@ -1,4 +1,4 @@
--- Acts that are not done.
+-- Acts that are not done. They are this project's own.
 use Rattle.std.specs.Prelude.{◌≡◌, ◌⊎◌, true, None}
 use Rattle.sk_types.specs.declared.number.Handle.{Handle}
 use Rattle.message.specs.Actors.{Way}

@@ -1,4 +1,4 @@
--- What an agent does next, as the limits of a run see it.
+-- What an agent does next, as the limits of a run see it. The limits are this project's own.
 use Rattle.std.specs.Prelude.{ℕ, ◌≡◌, ◌==◌, ◌&&◌, nat_le, not, Bool, true, false, List, [], ◌∷◌, length, Option, Some, None, if◌then◌else◌}
 use Rattle.sk_types.specs.declared.number.Handle.{Handle}
 use Rattle.message.specs.Data.{weight, capped}

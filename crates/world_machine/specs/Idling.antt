@@ -1,4 +1,4 @@
--- What an idle service is about to do.
+-- What an idle service is about to do (skynet_context_message_dispatch in skynet_server.c).
 use Rattle.std.specs.Prelude.{ℕ, ◌≡◌, List, [], ◌∷◌, Option}
 use Rattle.sk_types.specs.declared.number.Handle.{Handle}
 use Rattle.message.specs.Texts.{line_of, text_of}

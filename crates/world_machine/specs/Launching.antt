@@ -1,4 +1,4 @@
--- What a Launch and the clock's agent do, step by step.
+-- What a Launch and the clock's agent do, step by step (skynet_context_new in skynet_server.c, timer_shift in skynet_timer.c).
 use Rattle.std.specs.Prelude.{ℕ, ◌≡◌, ◌<◌, ◌≤◌, List, [], ◌∷◌, ◌++◌, Option, Some, None, length}
 use Rattle.sk_types.specs.declared.number.Handle.{Handle}
 use Rattle.sk_types.specs.declared.number.Session.{Session}

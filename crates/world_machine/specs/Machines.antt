@@ -1,4 +1,4 @@
--- The machine as contracts see it, and its acts.
+-- The machine as contracts see it, and its acts (skynet_server.c, with one worker).
 use Rattle.std.specs.Prelude.{ℕ, ◌≡◌, Bool, true, List, Option, Some, length, ◌⊎◌}
 use Rattle.sk_types.specs.declared.number.Handle.{Handle}
 use Rattle.message.specs.Actors.{Way}

@@ -1,4 +1,4 @@
--- Services in states that can be reached.
+-- Services in states that can be reached. They are this project's own.
 use Rattle.std.specs.Prelude.{◌≡◌}
 use Rattle.sk_types.specs.declared.number.Handle.{Handle}
 use Rattle.message.specs.Actors.{Way}

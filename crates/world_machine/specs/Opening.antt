@@ -1,4 +1,4 @@
--- The world before the first act, and its parts.
+-- The world before the first act, and its parts (skynet_start and bootstrap in skynet_start.c).
 use Rattle.std.specs.Prelude.{ℕ, ◌≡◌, false, true, List, [], ◌∷◌, Some}
 use Rattle.std.specs.FinMap as names
 use Rattle.sk_types.specs.declared.number.Handle.{Handle}

@@ -1,4 +1,4 @@
--- What a service does next, and what an answer makes of it.
+-- What a service does next, and what an answer makes of it (dispatch_message in skynet_server.c).
 use Rattle.std.specs.Prelude.{◌≡◌, true, false, List, [], ◌∷◌, ◌++◌, Some}
 use Rattle.sk_types.specs.declared.number.Handle.{Handle}
 use Rattle.message.specs.Messages.{requests}

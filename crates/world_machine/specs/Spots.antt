@@ -1,4 +1,4 @@
--- All places of a run, and what a request does at one of them.
+-- All places of a run (skynet_mq.c, skynet_handle.c, skynet_timer.c), and what a request does at one of them.
 use Rattle.std.specs.Prelude.{ℕ, ◌≡◌, List, Option, Some, None}
 use Rattle.sk_types.specs.declared.number.Handle.{Handle}
 use Rattle.sk_types.specs.declared.number.Session.{Session}

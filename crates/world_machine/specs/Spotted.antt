@@ -1,4 +1,4 @@
--- The places, as contracts see them.
+-- The places, as contracts see them (skynet_mq.c, skynet_handle.c, skynet_timer.c).
 use Rattle.world_machine.specs.declared.places.Places.{Places}
 use Rattle.world_machine.specs.Spots.{Spots}
 

@@ -1,4 +1,4 @@
--- Services of the machine, by what they do next.
+-- Services of the machine, by what they do next (skynet_context_message_dispatch in skynet_server.c).
 use Rattle.std.specs.Prelude.{◌≡◌, ◌<◌, ◌≤◌, Some, None, length}
 use Rattle.sk_types.specs.declared.number.Handle.{Handle}
 use Rattle.message.specs.Actors.{Way}
