@@ -13,4 +13,6 @@ pub use words::{
 };
 
 #[cfg(test)]
+mod histories;
+#[cfg(test)]
 mod tests;
