@@ -29,7 +29,7 @@ use Rattle.lua_compile.specs.declared.aim.Want.TheVariants as want
 use Rattle.lua_compile.specs.Writer.{Writer, emit, put, with_constant, lost_if, counted, declare_all, all_known, flag, place, captured, captures_of, up_from, after_up, seen_inside}
 use Rattle.lua_compile.specs.Forms.{register, settled, int_written, int_aimed, has_room, true_written, slot_written, name_written, stored, from, stores_written, nils_written, on_slot, some_written, or_else, shown_of, differ, binary_written, test_written, unary_slot, last_settled, called, called_list, wanted_written, where_none, ticked, ticked_more, ticked_twice, jumped, where_else}
 use Rattle.lua_compile.proofs.Kept.{Level, kept_self, kept_emit, get_end}
-use Rattle.lua_compile.proofs.KeptForms.{k_put, k_settled, k_nils, k_from, k_stores, k_declare_all}
+use Rattle.lua_compile.proofs.KeptForms.{k_put, k_settled, k_nils, k_stored, k_from, k_stores, k_declare_all}
 use Rattle.lua_compile.proofs.Fit.{Asks, Fin, fin_back, Fitting, fit_emit}
 
 -- what is written fits, and the functions that are done are valid
@@ -174,17 +174,20 @@ module _ (code : Code) (f : ℕ) (r : Routine) (L : List ℕ) where
   g_stored n s (Some Hidden) w lv fin m g = g_same w (lost_if true w) refl refl g
   g_stored n s None w lv fin m g = g_same w (lost_if true w) refl refl g
 
-  g_from : (n : ℕ) (x : Origin) (o : Option Place) (w : Writer) → Level w → F n (from x o w) → MayFit r.shape.cells (length r.captures) o → G w → G (from x o w)
-  g_from n (FromSlot s) o w lv fin m g = g_stored n s o w lv fin m g
-  g_from n (FromItem i) o w lv fin m g = g_same w (lost_if true w) refl refl g
+  g_from : (n : ℕ) (x : Origin) (d : ℕ) (o : Option Place) (w : Writer) → Level w → F n (from x d o w) → MayFit r.shape.cells (length r.captures) o → G w → G (from x d o w)
+  g_from n (FromSlot s) d o w lv fin m g = g_stored n s o w lv fin m g
+  g_from n (FromItem i) d o w lv fin m g =
+      let u = put (op.Item d i) w in
+      g_stored n d o u ((kept_emit 0 (op.Item d i) 0 w).level lv) fin m
+      (g_emit n (op.Item d i) 0 w lv (fin_back code f r L n u (stored o d u) fin (k_stored u u o d (kept_self 0 u))) tt g)
 
-  pub g_stores : (n : ℕ) (xs : List Write) (names : List Known) (w : Writer) → Level w → F n (stores_written xs names w) → Sees r names → G w → G (stores_written xs names w)
-  g_stores n [] names w lv fin s g = g
-  g_stores n (x ∷ xs) names w lv fin s g =
+  pub g_stores : (n : ℕ) (xs : List Write) (d : ℕ) (names : List Known) (w : Writer) → Level w → F n (stores_written xs d names w) → Sees r names → G w → G (stores_written xs d names w)
+  g_stores n [] d names w lv fin s g = g
+  g_stores n (x ∷ xs) d names w lv fin s g =
       let o = place_of names x.name in
-      let v = from x.origin o w in
-      g_stores n xs names v ((k_from w w x.origin o (kept_self 0 w)).level lv) fin s
-      (g_from n x.origin o w lv (fin_back code f r L n v (stores_written xs names v) fin (k_stores v v xs names (kept_self 0 v))) (place_fits r.shape.cells (length r.captures) names x.name s) g)
+      let v = from x.origin d o w in
+      g_stores n xs d names v ((k_from w w x.origin d o (kept_self 0 w)).level lv) fin s
+      (g_from n x.origin d o w lv (fin_back code f r L n v (stores_written xs d names v) fin (k_stores v v xs d names (kept_self 0 v))) (place_fits r.shape.cells (length r.captures) names x.name s) g)
 
   pub g_nils : (n s m : ℕ) (w : Writer) → Level w → F n (nils_written s m w) → G w → G (nils_written s m w)
   g_nils n s zero w lv fin g = g

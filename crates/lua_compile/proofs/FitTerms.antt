@@ -17,7 +17,7 @@ use Rattle.lua_steps.specs.declared.scope.Known.{Known}
 use Rattle.lua_steps.specs.Machine.{Code}
 use Rattle.lua_steps.specs.Exec.{ops_of, lines_of, constants_of}
 use Rattle.lua_steps.specs.Scope.{Scope, place_of}
-use Rattle.lua_steps.specs.Stand.{from_slots}
+use Rattle.lua_steps.specs.Stand.{from_slots, from_items}
 use Rattle.lua_steps.specs.Serves.{following}
 use Rattle.lua_compile.specs.declared.aim.Aim.{Aim}
 use Rattle.lua_compile.specs.declared.aim.Aim.TheVariants.{Into, Anywhere, Unless}
@@ -27,7 +27,7 @@ use Rattle.lua_compile.specs.declared.aim.Operand.TheVariants.{Slot}
 use Rattle.lua_compile.specs.declared.aim.Want.{Want}
 use Rattle.lua_compile.specs.declared.aim.Want.TheVariants as want
 use Rattle.lua_compile.specs.Writer.{Writer, cell_reach, put, labelled, label_of, placed_here, with_constant, lost_if, counted, done, flag, all_known, declare_all, captures_of, seen_inside, begun, resumed, place, placed}
-use Rattle.lua_compile.specs.Forms.{register, settled, differ, int_written, has_room, nils_written, shown, on_slot, is_slot, binary_written, tests, room_for, test_written, unary_slot, so_far, last_settled, link_aim, is_both, all_and, is_many, count, slots_fit, is_only, is_tail, only_shown, suffix_want, called, called_list, where_none, prepay, ticked, ticked_more, paid_before, ticked_twice, only_direct, only_slot, directly, jumped, where_else, function_known, close_op, stores_written, numeric_written, generic_written}
+use Rattle.lua_compile.specs.Forms.{register, settled, differ, int_written, has_room, nils_written, shown, on_slot, is_slot, binary_written, tests, room_for, test_written, unary_slot, so_far, last_settled, link_aim, is_both, all_and, is_many, count, slots_fit, targets_fit, is_only, is_tail, only_shown, suffix_want, called, called_list, where_none, prepay, ticked, ticked_more, paid_before, ticked_twice, only_direct, only_slot, directly, jumped, where_else, function_known, close_op, stores_written, numeric_written, generic_written}
 use Rattle.lua_compile.specs.Written.{exp_written, ands_written, operands_written, suffixes_written, fixed_written, values_written, many_written, list_written, all_written, tail_written, only_written, body_written, block_written, block_known, stats_written, stats_known, stat_written, stat_known, else_written}
 use Rattle.lua_compile.proofs.Kept.{Level, kept_self, kept_emit, get_front, get_end}
 use Rattle.lua_compile.proofs.KeptForms.{k_put, k_labelled, k_lost, k_counted, k_resumed, k_if, k_settled, k_int, k_nils, k_jumped, k_on, k_unary, k_binary, k_test, k_last, k_none, k_ticked, k_ticked_more, k_ticked_twice, k_stores, k_where_else, k_called, k_called_list, k_declare_all}
@@ -461,20 +461,36 @@ module _ (code : Code) where
         let le' : n ≤ length v.labels = omega (arith, le, kv.more) in
         let d = sc.free in
         let vals = λ (xs : List Text). values_written es (length xs) sc d v in
-        let regs = λ (xs : List Text). stores_written (from_slots xs d []) sc.names (vals xs) in
+        let regs = λ (xs : List Text). stores_written (from_slots xs d []) d sc.names (vals xs) in
         let one = λ (i : ℕ). only_written es sc d (Into i) v in
+        let bg = put op.Begin v in
+        let ls = list_written es sc d bg in
+        let items = λ (xs : List Text). stores_written (from_items xs 0 []) d sc.names ls in
+        let slots = λ (xs : List Text). directly (only_slot xs sc.names) (only_direct es) (regs xs) one in
         let X = λ (t : Writer). Fin code f r L n t in
         let Y = λ (t : Writer). Good code r L t in (
-          fit_targets X Y (variables ts) w (λ xs. directly (only_slot xs sc.names) (only_direct es) (regs xs) one) fin
-              (λ xs h. fit_directly X Y (only_slot xs sc.names) (only_direct es) (regs xs) one h
+          fit_targets X Y (variables ts) w (λ xs. if targets_fit xs then slots xs else put (op.Spread d 0) (items xs)) fin
+              (λ xs h0. fit_if X Y (targets_fit xs) (slots xs) (put (op.Spread d 0) (items xs)) h0
+              (λ b h. fit_directly X Y (only_slot xs sc.names) (only_direct es) (regs xs) one h
               (λ i h2. let ko = only_kept es sc d (Into i) v in
               only_fits es f r L sc d (Into i) v n le' lvv h2 tt s (g_ticked code f r L n k w lv (fin_back code f r L n v (one i) h2 ko) g))
               (λ h2. let u = vals xs in
               let ku = values_kept es (length xs) sc d v in
-              let ks = k_stores u u (from_slots xs d []) sc.names (kept_self 0 u) in
+              let ks = k_stores u u (from_slots xs d []) d sc.names (kept_self 0 u) in
               let fin_u = fin_back code f r L n u (regs xs) h2 ks in
               let gv = g_ticked code f r L n k w lv (fin_back code f r L n v u fin_u ku) g in
-              g_stores code f r L n (from_slots xs d []) sc.names u (ku.level lvv) h2 s (values_fits es (length xs) f r L sc d v n le' lvv fin_u s gv)))
+              g_stores code f r L n (from_slots xs d []) d sc.names u (ku.level lvv) h2 s (values_fits es (length xs) f r L sc d v n le' lvv fin_u s gv)))
+              (λ b h. let x = items xs in
+              let kx = k_stores ls ls (from_items xs 0 []) d sc.names (kept_self 0 ls) in
+              let kl = list_kept es sc d bg in
+              let lbg = (kept_emit 0 op.Begin 0 v).level lvv in
+              let fin_x = fin_back code f r L n x (put (op.Spread d 0) x) h (k_put x x (op.Spread d 0) (kept_self 0 x)) in
+              let fin_l = fin_back code f r L n ls x fin_x kx in
+              let fin_b = fin_back code f r L n bg ls fin_l kl in
+              let gv = g_ticked code f r L n k w lv (fin_back code f r L n v bg fin_b (k_put v v op.Begin (kept_self 0 v))) g in
+              let gl = list_fits es f r L sc d bg n le' lbg fin_l s (g_emit code f r L n op.Begin 0 v lvv fin_b tt gv) in
+              let lls = kl.level lbg in
+              g_emit code f r L n (op.Spread d 0) 0 x (kx.level lls) h tt (g_stores code f r L n (from_items xs 0 []) d sc.names ls lls fin_x s gl)))
               (g_same code f r L w (lost_if true w) refl refl g),
           s,
         )

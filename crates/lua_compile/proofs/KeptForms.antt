@@ -163,20 +163,20 @@ k_name w v (Some (InUp u)) d aim a = k_settled w (put (op.GetUp (register aim d)
 k_name w v (Some Hidden) d aim a = k_lost w v true a
 k_name w v None d aim a = k_lost w v true a
 
-k_stored : (w v : Writer) (o : Option Place) (r : ℕ) → K w v → K w (stored o r v)
+pub k_stored : (w v : Writer) (o : Option Place) (r : ℕ) → K w v → K w (stored o r v)
 k_stored w v (Some (InSlot s)) r a = k_put w v (op.Move s r) a
 k_stored w v (Some (InCell c)) r a = k_put w v (op.SetCell c r) a
 k_stored w v (Some (InUp u)) r a = k_put w v (op.SetUp u r) a
 k_stored w v (Some Hidden) r a = k_lost w v true a
 k_stored w v None r a = k_lost w v true a
 
-pub k_from : (w v : Writer) (x : Origin) (o : Option Place) → K w v → K w (from x o v)
-k_from w v (FromSlot r) o a = k_stored w v o r a
-k_from w v (FromItem i) o a = k_lost w v true a
+pub k_from : (w v : Writer) (x : Origin) (d : ℕ) (o : Option Place) → K w v → K w (from x d o v)
+k_from w v (FromSlot r) d o a = k_stored w v o r a
+k_from w v (FromItem i) d o a = k_stored w (put (op.Item d i) v) o d (k_put w v (op.Item d i) a)
 
-pub k_stores : (w v : Writer) (xs : List Write) (names : List Known) → K w v → K w (stores_written xs names v)
-k_stores w v [] names a = a
-k_stores w v (x ∷ xs) names a = k_stores w (from x.origin (place_of names x.name) v) xs names (k_from w v x.origin (place_of names x.name) a)
+pub k_stores : (w v : Writer) (xs : List Write) (d : ℕ) (names : List Known) → K w v → K w (stores_written xs d names v)
+k_stores w v [] d names a = a
+k_stores w v (x ∷ xs) d names a = k_stores w (from x.origin d (place_of names x.name) v) xs d names (k_from w v x.origin d (place_of names x.name) a)
 
 pub k_nils : (w v : Writer) (r n : ℕ) → K w v → K w (nils_written r n v)
 k_nils w v r zero a = a

@@ -9,7 +9,7 @@ use Rattle.lua_code.specs.declared.function.Constant.TheVariants as constant
 use Rattle.lua_code.specs.declared.op.Op.TheVariants as op
 use Rattle.lua_steps.specs.declared.scope.Known.{Known}
 use Rattle.lua_steps.specs.Scope.{Scope, place_of, past}
-use Rattle.lua_steps.specs.Stand.{from_slots}
+use Rattle.lua_steps.specs.Stand.{from_slots, from_items}
 use Rattle.lua_steps.specs.Serves.{following}
 use Rattle.lua_compile.specs.declared.aim.Aim.{Aim}
 use Rattle.lua_compile.specs.declared.aim.Aim.TheVariants.{Into, Anywhere, Unless}
@@ -19,7 +19,7 @@ use Rattle.lua_compile.specs.declared.aim.Operand.TheVariants.{Slot}
 use Rattle.lua_compile.specs.declared.aim.Want.{Want}
 use Rattle.lua_compile.specs.declared.aim.Want.TheVariants as want
 use Rattle.lua_compile.specs.Writer.{Writer, emit, put, labelled, label_of, placed_here, with_constant, lost_if, counted, flag, all_known, declare_all, seen_inside, begun, resumed}
-use Rattle.lua_compile.specs.Forms.{register, is_unless, differ, int_written, has_room, stores_written, nils_written, shown, on_slot, is_slot, binary_written, tests, room_for, test_written, unary_slot, so_far, last_settled, base_aim, all_and, no_more, is_many, count, slots_fit, is_only, is_tail, only_shown, suffix_want, called, called_list, prepay, ticked, ticked_more, paid_before, ticked_twice, only_direct, only_slot, directly, where_else, function_known, close_op, numeric_written, generic_written}
+use Rattle.lua_compile.specs.Forms.{register, is_unless, differ, int_written, has_room, stores_written, nils_written, shown, on_slot, is_slot, binary_written, tests, room_for, test_written, unary_slot, so_far, last_settled, base_aim, all_and, no_more, is_many, count, slots_fit, targets_fit, is_only, is_tail, only_shown, suffix_want, called, called_list, prepay, ticked, ticked_more, paid_before, ticked_twice, only_direct, only_slot, directly, where_else, function_known, close_op, numeric_written, generic_written}
 use Rattle.lua_compile.specs.Written.{exp_written, ands_written, operands_written, suffixes_written, fixed_written, values_written, many_written, list_written, all_written, tail_written, only_written, body_written, block_written, block_known, stats_written, stats_known, stat_written, stat_known, else_written}
 use Rattle.lua_compile.proofs.Kept.{kept_self, kept_then, kept_placed_new}
 use Rattle.lua_compile.proofs.KeptForms.{K, Inner, k_emit, k_put, k_labelled, k_constant, k_lost, k_counted, k_resumed, k_if, k_settled, k_int, k_aimed, k_true, k_name, k_stores, k_nils, k_on, k_binary, k_test, k_unary, k_last, k_linked, k_called, k_called_list, k_none, k_ticked, k_ticked_more, k_ticked_twice, k_targets, k_directly, k_jumped, k_where_else, k_declare_all}
@@ -229,12 +229,18 @@ mutual
   stat_kept (source.Assign ts es) sc k exit w =
       let v = ticked k w in
       let kv = k_ticked w w k (kept_self 0 w) in
+      let b = put op.Begin v in
+      let ls = list_written es sc sc.free b in
+      let regs = λ (xs : List Text). stores_written (from_slots xs sc.free []) sc.free sc.names (values_written es (length xs) sc sc.free v) in
+      let items = λ (xs : List Text). stores_written (from_items xs 0 []) sc.free sc.names ls in
       k_targets w w (variables ts)
-      (λ xs. directly (only_slot xs sc.names) (only_direct es) (stores_written (from_slots xs sc.free []) sc.names (values_written es (length xs) sc sc.free v)) (λ s. only_written es sc sc.free (Into s) v))
+      (λ xs. if targets_fit xs then directly (only_slot xs sc.names) (only_direct es) (regs xs) (λ s. only_written es sc sc.free (Into s) v) else put (op.Spread sc.free 0) (items xs))
       (kept_self 0 w)
-      (λ xs. k_directly w (stores_written (from_slots xs sc.free []) sc.names (values_written es (length xs) sc sc.free v)) (only_slot xs sc.names) (only_direct es) (λ s. only_written es sc sc.free (Into s) v)
-      (k_stores w (values_written es (length xs) sc sc.free v) (from_slots xs sc.free []) sc.names (on w v _ kv (values_kept es (length xs) sc sc.free v)))
+      (λ xs. k_if w (directly (only_slot xs sc.names) (only_direct es) (regs xs) (λ s. only_written es sc sc.free (Into s) v)) (put (op.Spread sc.free 0) (items xs)) (targets_fit xs)
+      (k_directly w (regs xs) (only_slot xs sc.names) (only_direct es) (λ s. only_written es sc sc.free (Into s) v)
+      (k_stores w (values_written es (length xs) sc sc.free v) (from_slots xs sc.free []) sc.free sc.names (on w v _ kv (values_kept es (length xs) sc sc.free v)))
       (λ s. on w v _ kv (only_kept es sc sc.free (Into s) v)))
+      (k_put w (items xs) (op.Spread sc.free 0) (k_stores w ls (from_items xs 0 []) sc.free sc.names (on w b _ (k_put w v op.Begin kv) (list_kept es sc sc.free b)))))
   stat_kept (source.Invoke e) sc k exit w =
       let v = ticked k w in
       let kv = k_ticked w w k (kept_self 0 w) in

@@ -8,6 +8,8 @@ pub mod ServesRest
 pub mod ServesLoops
 pub mod ServesTerms
 pub mod Chunk
+pub mod FoundForms
+pub mod FoundTerms
 pub mod Fit
 pub mod FitForms
 pub mod FitLoops

@@ -24,9 +24,9 @@ use Rattle.lua_compile.specs.declared.aim.Operand.TheVariants.{Slot, Constant as
 use Rattle.lua_compile.specs.declared.aim.Want.{Want}
 use Rattle.lua_compile.specs.declared.aim.Want.TheVariants as want
 use Rattle.lua_compile.specs.Writer.{Writer, emit, put, counted, declare_all, all_known, flag, place, placed, captured, captures_of, up_from, after_up, seen_inside}
-use Rattle.lua_compile.specs.Forms.{register, target_of, from, stores_written, nils_written, shown_of, on_slot, some_written, or_else, binary_written, test_written, unary_slot, wanted_written, ticked, ticked_more, ticked_twice, paid_before}
+use Rattle.lua_compile.specs.Forms.{register, target_of, stored, from, stores_written, nils_written, shown_of, on_slot, some_written, or_else, binary_written, test_written, unary_slot, wanted_written, ticked, ticked_more, ticked_twice, paid_before}
 use Rattle.lua_compile.proofs.Kept.{Level, kept_self, kept_emit}
-use Rattle.lua_compile.proofs.KeptForms.{k_put, k_from, k_stores, k_nils, k_declare_all}
+use Rattle.lua_compile.proofs.KeptForms.{k_put, k_stored, k_from, k_stores, k_nils, k_declare_all}
 use Rattle.lua_compile.proofs.Final.{Final, back, at_op, at_line, never_lost, Given}
 use Rattle.lua_compile.proofs.ServesForms.{put_in, stored_stands}
 
@@ -47,19 +47,24 @@ Follows want.AsResult R c = Unit {0}
 
 module _ (code : Code) (f : ℕ) (L : List ℕ) where
   -- ---- assignment
-  write_one : (n : ℕ) (o : Origin) (x : Write) (xs : List Write) (sc : Scope) (w : Writer) (R : ℕ → Type 0) → Level w → Final code f L n (from o (place_of sc.names x.name) w)
-      → ((from o (place_of sc.names x.name) w).at ≡ w.at + 1 → R (w.at + 1)) → IsWrite code f sc x o w.at R
-  write_one n (FromSlot r) x xs sc w R lv fin h =
-      let s = stored_stands code f L n r (place_of sc.names x.name) w lv fin in (s.0, h s.1)
-  write_one n (FromItem i) x xs sc w R lv fin h = absurd (never_lost code f L n w fin)
+  write_one : (n : ℕ) (o : Origin) (x : Write) (sc : Scope) (w : Writer) (R : ℕ → Type 0) → Level w → Final code f L n (from o sc.free (place_of sc.names x.name) w)
+      → R (from o sc.free (place_of sc.names x.name) w).at → IsWrite code f sc x o w.at R
+  write_one n (FromSlot r) x sc w R lv fin h =
+      let s = stored_stands code f L n r (place_of sc.names x.name) w lv fin in (s.0, subst R s.1 h)
+  write_one n (FromItem i) x sc w R lv fin h =
+      let d = sc.free in
+      let o = place_of sc.names x.name in
+      let u = put (op.Item d i) w in
+      let s = stored_stands code f L n d o u ((kept_emit 0 (op.Item d i) 0 w).level lv) fin in
+      (at_op code f L n (op.Item d i) 0 w lv (back code f L n u (stored o d u) fin (k_stored u u o d (kept_self 0 u))), s.0, two w.at R (subst R s.1 h))
 
-  pub writes_serve : (n : ℕ) (xs : List Write) (sc : Scope) (w : Writer) (R : ℕ → Type 0) → Level w → Final code f L n (stores_written xs sc.names w) → R (stores_written xs sc.names w).at → IsWrites code f sc xs w.at R
+  pub writes_serve : (n : ℕ) (xs : List Write) (sc : Scope) (w : Writer) (R : ℕ → Type 0) → Level w → Final code f L n (stores_written xs sc.free sc.names w) → R (stores_written xs sc.free sc.names w).at → IsWrites code f sc xs w.at R
   writes_serve n [] sc w R lv fin r = r
   writes_serve n (x ∷ xs) sc w R lv fin r =
-      let v = from x.origin (place_of sc.names x.name) w in
-      write_one n x.origin x xs sc w (λ b. IsWrites code f sc xs b R) lv
-      (back code f L n v (stores_written xs sc.names v) fin (k_stores v v xs sc.names (kept_self 0 v)))
-      (λ e. subst (λ b. IsWrites code f sc xs b R) e (writes_serve n xs sc v R ((k_from w w x.origin (place_of sc.names x.name) (kept_self 0 w)).level lv) fin r))
+      let v = from x.origin sc.free (place_of sc.names x.name) w in
+      write_one n x.origin x sc w (λ b. IsWrites code f sc xs b R) lv
+      (back code f L n v (stores_written xs sc.free sc.names v) fin (k_stores v v xs sc.free sc.names (kept_self 0 v)))
+      (writes_serve n xs sc v R ((k_from w w x.origin sc.free (place_of sc.names x.name) (kept_self 0 w)).level lv) fin r)
 
   pub nils_serve : (n r m : ℕ) (w : Writer) (R : ℕ → Type 0) → Level w → Final code f L n (nils_written r m w) → R (nils_written r m w).at → IsNils code f r m w.at R
   nils_serve n r zero w R lv fin g = g

@@ -13,7 +13,7 @@ use Rattle.lua_steps.specs.Machine.{Code}
 use Rattle.lua_steps.specs.Exec.{ops_of, lines_of, constants_of}
 use Rattle.lua_steps.specs.Scope.{Scope, place_of, Inside}
 use Rattle.lua_steps.specs.Stand as stand
-use Rattle.lua_steps.specs.Stand.{At, Leads, Ticks, Shown, Reg, Imm, Holds, Fails, OfReg, Branch, WhereInSlot, IsPut, IsInt, IsDeclares, IsWrites, from_slots, IsNumeric, IsGeneric, linked_as}
+use Rattle.lua_steps.specs.Stand.{At, Leads, Ticks, Shown, Reg, Imm, Holds, Fails, OfReg, Branch, WhereInSlot, IsPut, IsInt, IsDeclares, IsWrites, from_slots, from_items, IsNumeric, IsGeneric, linked_as}
 use Rattle.lua_steps.specs.Serves.{IsNoTail, following, IsExp, IsOperands, IsSuffixes, IsFixed, IsValues, IsMany, IsList, IsAll, IsOnly, IsTail, IsBody, IsBlock, IsStats, IsStat, IsElse}
 use Rattle.lua_compile.specs.declared.aim.Aim.{Aim}
 use Rattle.lua_compile.specs.declared.aim.Aim.TheVariants.{Into, Anywhere, Unless}
@@ -23,7 +23,7 @@ use Rattle.lua_compile.specs.declared.aim.Operand.TheVariants.{Slot}
 use Rattle.lua_compile.specs.declared.aim.Want.{Want}
 use Rattle.lua_compile.specs.declared.aim.Want.TheVariants as want
 use Rattle.lua_compile.specs.Writer.{Writer, put, labelled, label_of, placed_here, with_constant, lost_if, counted, done, flag, all_known, declare_all, seen_inside, begun, resumed, place, placed}
-use Rattle.lua_compile.specs.Forms.{register, target_of, differ, int_written, has_room, stores_written, nils_written, shown, shown_of, on_slot, is_slot, binary_written, tests, room_for, test_written, unary_slot, so_far, last_settled, link_aim, is_both, all_and, is_many, count, last_is_one, slots_fit, is_only, is_tail, only_shown, called, called_list, where_none, prepay, ticked, ticked_more, paid_before, ticked_twice, only_direct, only_slot, directly, jumped, where_else, function_known, close_op, numeric_written, generic_written}
+use Rattle.lua_compile.specs.Forms.{register, target_of, differ, int_written, has_room, stores_written, nils_written, shown, shown_of, on_slot, is_slot, binary_written, tests, room_for, test_written, unary_slot, so_far, last_settled, link_aim, is_both, all_and, is_many, count, last_is_one, slots_fit, targets_fit, is_only, is_tail, only_shown, called, called_list, where_none, prepay, ticked, ticked_more, paid_before, ticked_twice, only_direct, only_slot, directly, jumped, where_else, function_known, close_op, numeric_written, generic_written}
 use Rattle.lua_compile.specs.Written.{exp_written, ands_written, operands_written, suffixes_written, fixed_written, values_written, many_written, list_written, all_written, tail_written, only_written, body_written, block_written, block_known, stats_written, stats_known, stat_written, stat_known, else_written}
 use Rattle.lua_compile.proofs.Kept.{Level, kept_self, kept_emit, kept_placed_below, get_front, get_end, length_set}
 use Rattle.lua_compile.proofs.KeptForms.{K, k_put, k_labelled, k_lost, k_counted, k_resumed, k_if, k_int, k_nils, k_jumped, k_on, k_unary, k_binary, k_test, k_last, k_none, k_ticked, k_ticked_more, k_ticked_twice, k_stores, k_where_else, k_called, k_called_list, k_declare_all}
@@ -470,21 +470,43 @@ module _ (code : Code) where
         let le' : n ≤ length v.labels = omega (arith, le, kv.more) in
         let d = sc.free in
         let vals = λ (xs : List Text). values_written es (length xs) sc d v in
-        let regs = λ (xs : List Text). stores_written (from_slots xs d []) sc.names (vals xs) in
+        let regs = λ (xs : List Text). stores_written (from_slots xs d []) d sc.names (vals xs) in
         let one = λ (s : ℕ). only_written es sc d (Into s) v in
-        targets_serve code f L n _ (λ t. Q sc t.at) (variables ts) w (λ xs. directly (only_slot xs sc.names) (only_direct es) (regs xs) one) fin q
-        (λ xs fi qi. by_slot _ (λ t. Final code f L n t × Q sc t.at) (only_slot xs sc.names) (only_direct es) (regs xs) one (fi, qi)
+        let bg = put op.Begin v in
+        let ls = list_written es sc d bg in
+        let items = λ (xs : List Text). stores_written (from_items xs 0 []) d sc.names ls in
+        let slots = λ (xs : List Text). directly (only_slot xs sc.names) (only_direct es) (regs xs) one in
+        let F = λ (t : Writer). Final code f L n t × Q sc t.at in
+        targets_serve code f L n _ (λ t. Q sc t.at) (variables ts) w (λ xs. if targets_fit xs then slots xs else put (op.Spread d 0) (items xs)) fin q
+        (λ xs fi qi. by_bool _ F (targets_fit xs) (slots xs) (put (op.Spread d 0) (items xs)) (fi, qi)
+        (λ b hs. by_slot _ F (only_slot xs sc.names) (only_direct es) (regs xs) one hs
         (λ s is direct h. tick_serves code f L n k w _ lv (back code f L n v (one s) h.0 (only_kept es sc d (Into s) v))
         (inl (only_known xs sc.names s (λ i. IsOnly code f sc es v.at d (stand.Into i) (λ c p. Q sc c)) is
         (only_serves es f L sc d (Into s) v n (λ c p. Q sc c) le' lvv (direct_only es direct) h.0 h.1))))
         (λ h.
         let u = vals xs in
         let ku = values_kept es (length xs) sc d v in
-        let ks = k_stores u u (from_slots xs d []) sc.names (kept_self 0 u) in
+        let ks = k_stores u u (from_slots xs d []) d sc.names (kept_self 0 u) in
         let fin_u = back code f L n u (regs xs) h.0 ks in
         tick_serves code f L n k w _ lv (back code f L n v u fin_u ku)
         (inr (inr (inl (values_serves es (length xs) f L sc d v n (λ c. IsWrites code f sc (from_slots xs d []) c (λ z. Q sc z)) le' lvv fin_u
         (writes_serve code f L n (from_slots xs d []) sc u (λ z. Q sc z) (ku.level lvv) h.0 h.1)))))))
+        (λ b h.
+        let x = items xs in
+        let o = op.Spread d 0 in
+        let kx = k_stores ls ls (from_items xs 0 []) d sc.names (kept_self 0 ls) in
+        let kl = list_kept es sc d bg in
+        let lbg = (kept_emit 0 op.Begin 0 v).level lvv in
+        let fin_x = back code f L n x (put o x) h.0 (k_put x x o (kept_self 0 x)) in
+        let fin_l = back code f L n ls x fin_x kx in
+        let fin_b = back code f L n bg ls fin_l kl in
+        let R = λ (z : ℕ). At code f z o × Q sc (z + 1) in
+        tick_serves code f L n k w _ lv (back code f L n v bg fin_b (k_put v v op.Begin (kept_self 0 v)))
+        (inr (inr (inr (
+          at_op code f L n op.Begin 0 v lvv fin_b,
+          list_serves es f L sc d bg n (λ c. IsWrites code f sc (from_items xs 0 []) c R) le' lbg fin_l
+              (writes_serve code f L n (from_items xs 0 []) sc ls R (kl.level lbg) fin_x (at_op code f L n o 0 x (kx.level (kl.level lbg)) h.0, h.1)),
+        ))))))
     stat_serves (source.Invoke e) f L sc k exit w n X Q le lv fin x q =
         let v = ticked k w in
         let kv = k_ticked w w k (kept_self 0 w) in

@@ -97,13 +97,14 @@ stored (Some (InUp u)) r w = put (op.SetUp u r) w
 stored (Some Hidden) r w = lost_if true w
 stored None r w = lost_if true w
 
-abbrev pub from : Origin → Option Place → Writer → Writer
-from (FromSlot r) o w = stored o r w
-from (FromItem i) o w = lost_if true w
+-- an item of the list on top comes to slot d first
+abbrev pub from : Origin → ℕ → Option Place → Writer → Writer
+from (FromSlot r) d o w = stored o r w
+from (FromItem i) d o w = stored o d (put (op.Item d i) w)
 
-abbrev pub stores_written : List Write → List Known → Writer → Writer
-stores_written [] names w = w
-stores_written (x ∷ xs) names w = stores_written xs names (from x.origin (place_of names x.name) w)
+abbrev pub stores_written : List Write → ℕ → List Known → Writer → Writer
+stores_written [] d names w = w
+stores_written (x ∷ xs) d names w = stores_written xs d names (from x.origin d (place_of names x.name) w)
 
 abbrev pub nils_written : ℕ → ℕ → Writer → Writer
 nils_written r zero w = w
@@ -241,6 +242,10 @@ most = 50
 
 abbrev pub slots_fit : Exps → Bool
 slots_fit es = last_is_one es && ltb (count es) 51
+
+-- the values of so many targets
+abbrev pub targets_fit : List Text → Bool
+targets_fit xs = ltb (length xs) 51
 
 abbrev pub is_only : Exps → Bool
 is_only (MoreExps e NoExp) = not (is_many e)

@@ -1,5 +1,6 @@
 pub mod Writer
 pub mod Forms
+pub mod HasCode
 pub mod Written
 pub mod Laws
 pub mod Worked

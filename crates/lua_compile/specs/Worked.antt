@@ -1,6 +1,6 @@
 -- Small chunks, compiled and run: they give what their meaning gives, which is what Lua 5.4 gives.
 use Rattle.std.specs.Prelude.{◌≡◌, ℕ, zero, suc, ◌-◌, true, Bool, List, [], ◌∷◌, ◌++◌, length, codes, pos, negsuc}
-use Rattle.lua_tree.specs.Source.{Block}
+use Rattle.lua_tree.specs.Source.{Block, Returns, NoStat, MoreStats, Assign, Local, Targets, NoTarget, MoreTargets, Variable, NoExp}
 use Rattle.lua_value.specs.declared.value.Value.TheVariants as value
 use Rattle.lua_meaning.specs.Worked as source
 use Rattle.lua_meaning.specs.Worked.{Outcome, Values, Error, NoTicks, NoUnits, ints, counting}
@@ -31,6 +31,17 @@ gives b = within (flags_from (chunk_read b).uses (chunk_read b).locals) 200 100 
 abbrev pub gives_by_cells : Block → Outcome
 gives_by_cells b = within [] 200 100 100 b
 
+-- `local a, b; b, a, a, .. = 1, 2, 3`, with n times a: too many targets for slots
+abbrev pub times_a : ℕ → Targets
+times_a zero = NoTarget
+times_a (suc n) = MoreTargets (Variable source.a) (times_a n)
+
+abbrev pub many_targets : ℕ → Block
+many_targets n =
+    Returns (MoreStats (Local (source.a ∷ source.b ∷ []) NoExp)
+    (MoreStats (Assign (MoreTargets (Variable source.b) (times_a n)) (source.list (source.int 1 ∷ source.int 2 ∷ source.int 3 ∷ []))) NoStat))
+    (source.list (source.name source.a ∷ source.name source.b ∷ []))
+
 pub record CompiledChunksAreAsInLua : Type 0 where
   pub operators_give : gives source.operators ≡ ints (negsuc 3 ∷ negsuc 0 ∷ pos 0 ∷ [])
   pub swap_gives : gives source.swap ≡ ints (pos 2 ∷ pos 1 ∷ [])
@@ -55,3 +66,6 @@ pub record CompiledChunksAreAsInLua : Type 0 where
   pub cells_swap : gives_by_cells source.swap ≡ ints (pos 2 ∷ pos 1 ∷ [])
   pub loops_by_cells : gives_by_cells source.loops ≡ ints (pos 6 ∷ [])
   pub iterator_by_cells : gives_by_cells source.iterator ≡ ints (pos 27 ∷ [])
+  pub targets_in_slots : gives (many_targets 49) ≡ ints (pos 2 ∷ pos 1 ∷ [])
+  pub targets_by_a_list : gives (many_targets 50) ≡ ints (pos 2 ∷ pos 1 ∷ [])
+  pub targets_in_cells : gives_by_cells (many_targets 50) ≡ ints (pos 2 ∷ pos 1 ∷ [])

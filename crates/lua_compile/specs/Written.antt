@@ -10,7 +10,7 @@ use Rattle.lua_code.specs.Routine.{Routine}
 use Rattle.lua_steps.specs.declared.scope.Known.{Known}
 use Rattle.lua_steps.specs.Exec.{start_ops}
 use Rattle.lua_steps.specs.Scope.{Scope, place_of}
-use Rattle.lua_steps.specs.Stand.{from_slots}
+use Rattle.lua_steps.specs.Stand.{from_slots, from_items}
 use Rattle.lua_steps.specs.Serves.{following}
 use Rattle.lua_compile.specs.declared.aim.Aim.{Aim}
 use Rattle.lua_compile.specs.declared.aim.Aim.TheVariants.{Into, Anywhere, Unless}
@@ -20,7 +20,7 @@ use Rattle.lua_compile.specs.declared.aim.Operand.TheVariants.{Slot}
 use Rattle.lua_compile.specs.declared.aim.Want.{Want}
 use Rattle.lua_compile.specs.declared.aim.Want.TheVariants as want
 use Rattle.lua_compile.specs.Writer.{Writer, put, labelled, label_of, placed_here, with_constant, lost_if, counted, flag, all_known, declare_all, seen_inside, begun, resumed}
-use Rattle.lua_compile.specs.Forms.{register, is_unless, settled, differ, int_aimed, int_written, true_written, name_written, stores_written, nils_written, shown, on_slot, is_slot, binary_written, tests, room_for, test_written, unary_slot, so_far, last_settled, linked, base_aim, all_and, no_more, is_many, count, slots_fit, is_only, is_tail, only_shown, suffix_want, called, called_list, where_none, prepay, ticked, ticked_more, paid_before, ticked_twice, only_direct, only_slot, with_targets, directly, jumped, where_else, function_known, close_op, numeric_written, generic_written}
+use Rattle.lua_compile.specs.Forms.{register, is_unless, settled, differ, int_aimed, int_written, true_written, name_written, stores_written, nils_written, shown, on_slot, is_slot, binary_written, tests, room_for, test_written, unary_slot, so_far, last_settled, linked, base_aim, all_and, no_more, is_many, count, slots_fit, targets_fit, is_only, is_tail, only_shown, suffix_want, called, called_list, where_none, prepay, ticked, ticked_more, paid_before, ticked_twice, only_direct, only_slot, with_targets, directly, jumped, where_else, function_known, close_op, numeric_written, generic_written}
 
 abbrev mutual
   pub exp_written : Exp → Scope → ℕ → Aim → Writer → Writer
@@ -167,9 +167,11 @@ abbrev mutual
   pub stat_written : Stat → Scope → ℕ → Option ℕ → Writer → Writer
   stat_written (source.Assign ts es) sc k exit w =
       with_targets (variables ts) w (λ xs.
-      directly (only_slot xs sc.names) (only_direct es)
-      (stores_written (from_slots xs sc.free []) sc.names (values_written es (length xs) sc sc.free (ticked k w)))
-      (λ s. only_written es sc sc.free (Into s) (ticked k w)))
+      if targets_fit xs
+      then directly (only_slot xs sc.names) (only_direct es)
+      (stores_written (from_slots xs sc.free []) sc.free sc.names (values_written es (length xs) sc sc.free (ticked k w)))
+      (λ s. only_written es sc sc.free (Into s) (ticked k w))
+      else put (op.Spread sc.free 0) (stores_written (from_items xs 0 []) sc.free sc.names (list_written es sc sc.free (put op.Begin (ticked k w)))))
   stat_written (source.Invoke e) sc k exit w =
       if is_many e then many_written e 0 sc sc.free (ticked k w) else exp_written e sc sc.free (Anywhere Nothing) (ticked k w)
   stat_written source.Break sc k exit w = jumped exit (ticked k w)

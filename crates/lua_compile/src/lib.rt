@@ -7,4 +7,6 @@ mod aim;
 mod law;
 
 pub use aim::{Aim, Operand, Room, Want};
-pub use law::{law_compiled_code_is_valid, law_compiled_code_serves, law_worked_chunks};
+pub use law::{
+    law_chunks_have_code, law_compiled_code_is_valid, law_compiled_code_serves, law_worked_chunks,
+};

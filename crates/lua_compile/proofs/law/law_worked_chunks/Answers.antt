@@ -30,4 +30,7 @@ returns c =
       cells_swap = refl;
       loops_by_cells = refl;
       iterator_by_cells = refl;
+      targets_in_slots = refl;
+      targets_by_a_list = refl;
+      targets_in_cells = refl;
     }
