@@ -5,7 +5,7 @@ mod logger;
 mod text;
 
 pub use logger::Logger;
-pub use text::line;
+pub use text::{line, push_hex};
 
 #[cfg(test)]
 mod tests;

@@ -17,8 +17,8 @@ pub fn line(alloc: Global, source: Handle, text: &Bytes) -> Result<Bytes, NoMemo
     Ok(out)
 }
 
-/// Adds the last so many digits of the number in base 16.
-fn push_hex(out: &mut Bytes, digits: u32, number: u32) -> Result<(), NoMemory>
+/// Adds the last so many digits of a number in base 16.
+pub fn push_hex(out: &mut Bytes, digits: u32, number: u32) -> Result<(), NoMemory>
     ensures { OnOk result (out.new ≡ out.old ++ hex digits number) }
 {
     if digits == 0 {

@@ -169,7 +169,8 @@ fn was_refused(last: Option<&Answer>) -> bool
     }
 }
 
-fn to_logger(own: Handle, body: Body) -> Request
+/// A line for the logger; the sender `own` is its source.
+pub fn to_logger(own: Handle, body: Body) -> Request
     ensures { result ≡ to_logger own body }
 {
     Request::Put(
@@ -183,7 +184,8 @@ fn to_logger(own: Handle, body: Body) -> Request
     )
 }
 
-fn to_launcher(own: Handle, body: Body) -> Request
+/// A word to the launcher, which wants no answer.
+pub fn to_launcher(own: Handle, body: Body) -> Request
     ensures { result ≡ to_launcher own body }
 {
     Request::Put(
