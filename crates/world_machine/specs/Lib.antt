@@ -10,4 +10,5 @@ pub mod Launching
 pub mod Opening
 pub mod Quiet
 pub mod Foreseen
+pub mod Phases
 pub mod Calling

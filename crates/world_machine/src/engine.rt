@@ -10,12 +10,17 @@ ghost use Rattle.world_machine.specs.Spots.{with_spots};
 ghost use Rattle.world_machine.specs.Spotted.{spots};
 ghost use Rattle.world_machine.specs.Failing.{Fails};
 ghost use Rattle.world_machine.specs.Foreseen.{IsAhead};
+ghost use Rattle.world_machine.specs.Phases.{phase_of, phase as phase_lem};
+ghost use Rattle.message.specs.Steps.{due_ops};
+ghost use Rattle.message.specs.Registries.{at};
+ghost use Rattle.std.specs.Option.{option_copied};
 ghost use Rattle.world_machine.specs.Standing.{StandsAt, StaysAt, IsPlain};
 ghost use Rattle.world_machine.specs.Launching.{Brings, MayHear, Hears, FirstDue, clock_agent};
 ghost use Rattle.world_machine.specs.declared.served.Stage.TheVariants as stage_lem;
 
 use crate::calling::{call_in, open, receive, reply_in, settle, withdraw};
 use crate::idle::{close, line_ahead, take_first};
+use crate::phase::{Phase, service_phase};
 use crate::places::{Places, Undone};
 use crate::served::{Served, Stage};
 use crate::service::{answer, end, replying, stage, take};
@@ -122,6 +127,39 @@ impl<A: Actor + Drop> Engine<A> {
         ensures { result ≡ self.now.spent }
     {
         self.spent
+    }
+
+    /// The inbox of the handle, where that was given.
+    pub fn inbox(&self, handle: Handle) -> Option<&InboxState>
+        ensures { option_copied result ≡ at self.now.world.inboxes handle.0 }
+    {
+        if handle.0 == 0 {
+            return None;
+        }
+        self.places.inboxes.get(handle.0 as usize - 1)
+    }
+
+    /// What the agent is about to do, or none where there is no such agent.
+    pub fn phase(&self, agent: Handle) -> Option<Phase>
+        ensures { result ≡ phase_lem A.way (over A.meaning self.now.world) agent }
+    {
+        if agent.0 == 0 {
+            return Some(self.clock_phase());
+        }
+        match self.services.get(agent.0 as usize - 1) {
+            Some(service) => Some(service_phase(service)),
+            None => None,
+        }
+    }
+
+    /// What agent 0 is about to do.
+    fn clock_phase(&self) -> Phase
+        ensures { result ≡ phase_of (due_ops self.now.world.due) }
+    {
+        match self.first_due() {
+            Some((to, _)) => Phase::Sends(to),
+            None => Phase::Elsewhere,
+        }
     }
 
     /// The one next action of the agent, or none where it has none. It takes no memory.

@@ -5,6 +5,7 @@ mod calling;
 mod engine;
 mod idle;
 mod opening;
+mod phase;
 mod places;
 mod served;
 mod service;
@@ -13,6 +14,7 @@ mod world;
 
 pub use calling::NewCall;
 pub use engine::{ActError, Engine, NoAction};
+pub use phase::Phase;
 pub use places::{Places, Undone};
 pub use served::{Served, Stage};
 pub use weighing::Ahead;

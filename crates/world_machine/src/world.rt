@@ -6,12 +6,16 @@ ghost use Rattle.call_fates.specs.Kept.{IsKept};
 ghost use Rattle.world_machine.specs.Calling.{Goes};
 ghost use Rattle.world_machine.specs.Failing.{FailsRun};
 ghost use Rattle.world_machine.specs.Foreseen.{IsAhead};
+ghost use Rattle.world_machine.specs.Phases.{phase as phase_lem};
+ghost use Rattle.message.specs.Registries.{at};
+ghost use Rattle.std.specs.Option.{option_copied};
 ghost use Rattle.world_machine.specs.Opening.{first_handle, second_handle, start_handle, OpensRun};
 
 use crate::engine::{ActError, Engine};
+use crate::phase::Phase;
 use crate::weighing::Ahead;
 use call_fates::Calls;
-use message::{Actor, Maker};
+use message::{Actor, InboxState, Maker};
 use sk_types::{Bytes, Handle, NoMemory};
 use std::alloc::Global;
 use std::marker::Model;
@@ -95,6 +99,20 @@ impl<A: Actor + Drop> World<A> {
         ensures kept { OnFalse self.now.spent (IsKept A.way A.sound (over A.meaning self.now.world) self.now.calls) }
     {
         &self.calls
+    }
+
+    /// The inbox of the handle, where that was given.
+    pub fn inbox(&self, handle: Handle) -> Option<&InboxState>
+        ensures { option_copied result ≡ at self.now.world.inboxes handle.0 }
+    {
+        self.engine.inbox(handle)
+    }
+
+    /// What the agent is about to do, or none where there is no such agent. It takes no memory.
+    pub fn phase(&self, agent: Handle) -> Option<Phase>
+        ensures { result ≡ phase_lem A.way (over A.meaning self.now.world) agent }
+    {
+        self.engine.phase(agent)
     }
 
     /// The one next action of the agent, or none where it has none. It takes no memory.
