@@ -1,0 +1,15 @@
+//! The launcher, skynet's service 2: it launches services, answers who asked for them, and lists them.
+#![tactic(auto)]
+
+mod desk;
+mod launcher;
+mod laws;
+mod order;
+mod replies;
+mod requests;
+
+pub use launcher::Launcher;
+pub use laws::law_sender_is_served;
+
+#[cfg(test)]
+mod tests;

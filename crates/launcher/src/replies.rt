@@ -1,0 +1,107 @@
+ghost use Rattle.std.specs.Prelude.{◌≡◌, ◌∷◌, ◌++◌, [], IfOk, OnOk, map, codes};
+ghost use Rattle.message.specs.declared.datum.Datum.TheVariants as datum;
+ghost use Rattle.launcher.specs.Rows.{address, entry, kind_of, body_of, answer, line, launcher};
+
+use crate::desk::{Reply, Service};
+use logger::push_hex;
+use message::{Body, Datum, Held, Message, Pairs};
+use sk_types::{Bytes, Handle, Kind, NoMemory, Session};
+use sqlite_items::Items;
+use std::alloc::Global;
+
+/// The handle of the launcher.
+pub const LAUNCHER: Handle = Handle(2);
+
+/// What a caller is answered.
+pub fn answer(
+    alloc: Global,
+    services: &[Service],
+    held: Held,
+    reply: Reply,
+) -> Result<Message, NoMemory>
+    ensures { IfOk result (λ m. m ≡ answer services.now held reply) }
+{
+    let body = body_of(alloc, services, reply)?;
+    Ok(Message {
+        source: LAUNCHER,
+        session: held.session,
+        kind: kind_of(reply),
+        body,
+    })
+}
+
+fn kind_of(reply: Reply) -> Kind
+    ensures { result ≡ kind_of reply }
+{
+    match reply {
+        Reply::Failed => Kind::Error,
+        Reply::Ended | Reply::Launched(_) | Reply::Killed(_) | Reply::Services => Kind::Response,
+    }
+}
+
+fn body_of(alloc: Global, services: &[Service], reply: Reply) -> Result<Body, NoMemory>
+    ensures { IfOk result (λ b. b ≡ body_of services.now reply) }
+{
+    match reply {
+        Reply::Failed | Reply::Ended => Ok(Body::new(alloc)),
+        Reply::Launched(handle) => one(alloc, Datum::Int(i64::from(handle.0))),
+        Reply::Killed(retired) => one(alloc, Datum::Bool(retired)),
+        Reply::Services => {
+            let pairs = entries(alloc, services)?;
+            one(alloc, Datum::Table(pairs))
+        }
+    }
+}
+
+/// A body of one value.
+fn one(alloc: Global, value: Datum) -> Result<Body, NoMemory>
+    ensures { IfOk result (λ b. b ≡ value ∷ []) }
+{
+    let mut body = Body::new(alloc);
+    body.push(value)?;
+    Ok(body)
+}
+
+fn entries(alloc: Global, services: &[Service]) -> Result<Pairs, NoMemory>
+    ensures { IfOk result (λ p. p ≡ map entry services.now) }
+{
+    let mut pairs = Items::new(alloc);
+    for service in services {
+        pairs.push(entry(alloc, service)?)?;
+    }
+    Ok(pairs)
+}
+
+fn entry(alloc: Global, service: &Service) -> Result<(Datum, Datum), NoMemory>
+    ensures { IfOk result (λ p. p ≡ entry service.now) }
+{
+    let address = address(alloc, service.handle)?;
+    let mut text = Bytes::from_slice(alloc, b"snlua ")?;
+    text.push_slice(service.name.as_slice())?;
+    Ok((Datum::Text(address), Datum::Text(text)))
+}
+
+/// The text of a handle (`skynet.address`).
+fn address(alloc: Global, handle: Handle) -> Result<Bytes, NoMemory>
+    ensures { IfOk result (λ t. t ≡ address handle) }
+{
+    let mut text = Bytes::from_slice(alloc, b":")?;
+    push_hex(&mut text, 8, handle.0)?;
+    Ok(text)
+}
+
+/// The line of a launch that failed.
+pub fn line(alloc: Global, name: &Bytes) -> Result<Message, NoMemory>
+    ensures { IfOk result (λ m. m ≡ line name.now) }
+{
+    let mut text = Bytes::from_slice(alloc, b"launch ")?;
+    text.push_slice(name.as_slice())?;
+    text.push_slice(b" failed")?;
+    let body = one(alloc, Datum::Text(text))?;
+    Ok(Message {
+        source: LAUNCHER,
+        session: Session(0),
+        kind: Kind::Text,
+        body,
+    })
+}

@@ -1,0 +1,12 @@
+pub mod Lists
+pub mod Counts
+pub mod Placed
+pub mod Cells
+pub mod Acting
+pub mod Timers
+pub mod Following
+pub mod Quiet
+pub mod Runs
+pub mod Parking
+pub mod Opening
+pub mod Stepping

@@ -1,0 +1,5 @@
+pub mod Turns
+pub mod Levels
+pub mod Steps
+pub mod Laws
+pub mod Cores
