@@ -1,4 +1,4 @@
-ghost use Rattle.std.specs.Prelude.{◌≡◌, [], ◌∷◌, ◌++◌, length, IfOk, OnOk, OnErr};
+ghost use Rattle.std.specs.Prelude.{◌≡◌, ◌<◌, [], ◌∷◌, ◌++◌, length, slice_set, IfOk, OnOk, OnErr};
 ghost use Rattle.lua_code.specs.Routine.{Routine};
 
 use crate::op::Op;
@@ -115,6 +115,14 @@ impl Function {
         self.ops.push(op)?;
         self.lines.push_reserved(line);
         Ok(())
+    }
+
+    /// Puts another operation in the place of one; its line stays.
+    pub fn set_op(&mut self, at: usize, op: Op)
+        requires { at < length self.old.ops }
+        ensures { self.new ≡ record self.old { ops = slice_set self.old.ops at op } }
+    {
+        self.ops[at] = op;
     }
 
     pub fn add_constant(&mut self, constant: Constant) -> Result<(), NoMemory>

@@ -14,3 +14,6 @@ pub mod Fit
 pub mod FitForms
 pub mod FitLoops
 pub mod FitTerms
+pub mod ScopeLemmas
+pub mod TargetLemmas
+pub mod TreeLemmas

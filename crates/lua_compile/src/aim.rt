@@ -1,3 +1,5 @@
+use lua_model::Binary;
+
 /// Which integers may stay in the operation that takes them.
 #[derive(Clone, Copy)]
 pub enum Room {
@@ -33,4 +35,15 @@ pub enum Want {
     AsList,
     /// They are the results of the function.
     AsResult,
+}
+
+/// How an operator comes to its value.
+#[derive(Clone, Copy)]
+pub enum Link {
+    /// `and`
+    Both,
+    /// `or`
+    Either,
+    /// By both operands.
+    Strict(Binary),
 }

@@ -1,0 +1,8 @@
+use Rattle.std.proofs.Common.{◌≡◌, drop, map}
+use Rattle.lua_tree.specs.View.{operand_of, operands_of}
+use Rattle.lua_compile.specs.Forms.{all_strict}
+use Rattle.lua_compile.proofs.assign.all_strict.Given as goal
+
+abbrev pub invariant-loop-operation : goal.invariant-loop-operation
+invariant-loop-operation l =
+    all_strict (operands_of (map operand_of (drop l.operation-index l.operations))) ≡ all_strict (operands_of (map operand_of l.operations))
