@@ -35,6 +35,13 @@ fn dispatching(alloc: Global) -> Result<Library, NoMemory> {
     Ok(library)
 }
 
+/// The same, while a message that wants no answer runs in thread 20.
+fn running(alloc: Global) -> Result<Library, NoMemory> {
+    let mut library = dispatching(alloc)?;
+    let _ = library.call(message(alloc, 3, 0, Kind::Lua)?)?;
+    Ok(library)
+}
+
 fn looks_up(step: &LibStep, handle: u32) -> bool {
     matches!(step, LibStep::Ask(Request::Look(Dest::Number(n))) if *n == handle)
 }
@@ -84,9 +91,8 @@ fn a_response_function_answers_once(rt: HostRuntime) -> Result<(), Fail> {
 
 #[test]
 fn a_token_is_slept_under_once(rt: HostRuntime) -> Result<(), Fail> {
-    let mut library = dispatching(rt.alloc())?;
+    let mut library = running(rt.alloc())?;
     let token = Token { kind: 2, number: 9 };
-    let _ = library.call(message(rt.alloc(), 3, 0, Kind::Lua)?)?;
     let step = library.call(LibCall::Wakeup(token))?;
     assert!(rt; gives(&step, 20, 0));
     let step = library.call(LibCall::Fork(ThreadNo(21)))?;
@@ -108,8 +114,7 @@ fn a_token_is_slept_under_once(rt: HostRuntime) -> Result<(), Fail> {
 
 #[test]
 fn a_call_is_answered_or_fails(rt: HostRuntime) -> Result<(), Fail> {
-    let mut library = dispatching(rt.alloc())?;
-    let _ = library.call(message(rt.alloc(), 3, 0, Kind::Lua)?)?;
+    let mut library = running(rt.alloc())?;
     for session in 1..3u64 {
         let body = number(rt.alloc(), 1)?;
         let step = library.call(LibCall::Call(Dest::Number(5), body))?;
@@ -132,14 +137,20 @@ fn a_call_is_answered_or_fails(rt: HostRuntime) -> Result<(), Fail> {
     Ok(())
 }
 
+/// Whether the library tells the launcher that its service ends, and retires it.
+fn tells_and_retires(library: &mut Library) -> Result<bool, NoMemory> {
+    let step = library.call(LibCall::Kill(Dest::Number(4), false))?;
+    if !puts(&step, 2, Kind::Lua, 0) {
+        return Ok(false);
+    }
+    let step = library.call(LibCall::Answer(Answer::Flag(true)))?;
+    Ok(matches!(&step, LibStep::Ask(Request::Retire(h)) if h.0 == 4))
+}
+
 #[test]
 fn a_service_kills_itself(rt: HostRuntime) -> Result<(), Fail> {
-    let mut library = dispatching(rt.alloc())?;
-    let _ = library.call(message(rt.alloc(), 3, 0, Kind::Lua)?)?;
-    let step = library.call(LibCall::Kill(Dest::Number(4), false))?;
-    assert!(rt; puts(&step, 2, Kind::Lua, 0));
-    let step = library.call(LibCall::Answer(Answer::Flag(true)))?;
-    assert!(rt; matches!(&step, LibStep::Ask(Request::Retire(h)) if h.0 == 4));
+    let mut library = running(rt.alloc())?;
+    assert!(rt; tells_and_retires(&mut library)?);
     let step = library.call(LibCall::Answer(Answer::Flag(true)))?;
     assert!(rt; matches!(&step, LibStep::Ask(Request::Mark(h)) if h.0 == 4));
     let step = library.call(LibCall::Answer(Answer::Done))?;
