@@ -25,7 +25,7 @@ pub use law::{
 };
 pub use list::{following, is_many, is_only, is_tail, only_of, only_shown, slots_fit, suffix_want};
 pub use operator::{
-    Strict, base_aim, is_slot, link_of, no_more, only_tests, room_for, so_far, tests, unary_of,
+    Strict, base_aim, is_slot, is_test, link_of, no_more, only_tests, room_for, so_far, unary_of,
 };
 pub use scope::{Extent, Scope};
 pub use value::{register, shown};

@@ -147,7 +147,7 @@ pub fn no_more(rest: &[Operation]) -> bool
 }
 
 /// Whether the last operator of a chain is a comparison that jumps by itself.
-pub fn tests(op: Binary, rest: &[Operation], aim: Aim, left: Operand, d: u16) -> bool
+pub fn is_test(op: Binary, rest: &[Operation], aim: Aim, left: Operand, d: u16) -> bool
     ensures { result ≡ tests op (operands_of (map operand_of rest.now)) aim left d }
 {
     is_comparison(op) && no_more(rest) && is_unless(aim) && is_short(left) && d < 255
