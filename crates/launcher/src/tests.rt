@@ -72,70 +72,6 @@ fn tells(next: &Next, n: i64) -> bool {
     }
 }
 
-fn is_idle(next: &Next) -> bool {
-    matches!(next, Next::Idle)
-}
-
-#[test]
-fn a_launch_is_answered_when_the_service_has_started(rt: HostRuntime) -> Result<(), Fail> {
-    let mut launcher = launcher(rt.alloc())?;
-    let next = launcher.goes_on(launch(rt.alloc())?)?;
-    assert!(rt; matches!(&next, Next::Ask(Request::Launch(_, args)) if args.as_slice().len() == 1));
-    let next = launcher.goes_on(found(4))?;
-    assert!(rt; is_idle(&next));
-    let next = launcher.goes_on(message(rt.alloc(), 4, b"LAUNCHOK".as_slice(), None)?)?;
-    assert!(rt; looks_up(&next, 3));
-    let next = launcher.goes_on(found(3))?;
-    assert!(rt; puts(&next, 3, Kind::Response, 1) && tells(&next, 4));
-    let next = launcher.goes_on(Input::Answer(Answer::Flag(true)))?;
-    assert!(rt; is_idle(&next));
-    let next = launcher.goes_on(message(rt.alloc(), 4, b"LAUNCHOK".as_slice(), None)?)?;
-    assert!(rt; is_idle(&next));
-    Ok(())
-}
-
-#[test]
-fn a_launch_that_fails_has_a_line(rt: HostRuntime) -> Result<(), Fail> {
-    let mut launcher = launcher(rt.alloc())?;
-    let _ = launcher.goes_on(launch(rt.alloc())?)?;
-    let next = launcher.goes_on(Input::Answer(Answer::Found(None)))?;
-    assert!(rt; puts(&next, 1, Kind::Text, 0));
-    let next = launcher.goes_on(Input::Answer(Answer::Flag(true)))?;
-    assert!(rt; looks_up(&next, 3));
-    let next = launcher.goes_on(found(3))?;
-    assert!(rt; puts(&next, 3, Kind::Error, 1));
-    Ok(())
-}
-
-#[test]
-fn a_start_that_fails_is_told(rt: HostRuntime) -> Result<(), Fail> {
-    let mut launcher = pending(rt.alloc())?;
-    let next = launcher.goes_on(message(rt.alloc(), 4, b"ERROR".as_slice(), None)?)?;
-    assert!(rt; looks_up(&next, 3));
-    let next = launcher.goes_on(found(3))?;
-    assert!(rt; puts(&next, 3, Kind::Error, 1));
-    Ok(())
-}
-
-#[test]
-fn a_kill_is_told_to_both(rt: HostRuntime) -> Result<(), Fail> {
-    let mut launcher = pending(rt.alloc())?;
-    let kill = message(rt.alloc(), 5, b"KILL".as_slice(), Some(Datum::Int(4)))?;
-    let next = launcher.goes_on(kill)?;
-    assert!(rt; matches!(&next, Next::Ask(Request::Retire(h)) if h.0 == 4));
-    let next = launcher.goes_on(Input::Answer(Answer::Flag(true)))?;
-    assert!(rt; matches!(&next, Next::Ask(Request::Mark(h)) if h.0 == 4));
-    let next = launcher.goes_on(Input::Answer(Answer::Done))?;
-    assert!(rt; looks_up(&next, 3));
-    let next = launcher.goes_on(found(3))?;
-    assert!(rt; puts(&next, 3, Kind::Error, 1));
-    let next = launcher.goes_on(Input::Answer(Answer::Flag(true)))?;
-    assert!(rt; looks_up(&next, 5));
-    let next = launcher.goes_on(found(5))?;
-    assert!(rt; puts(&next, 5, Kind::Response, 9));
-    Ok(())
-}
-
 /// The number of services that a list has.
 fn count(next: &Next) -> usize {
     match next {
@@ -147,31 +83,159 @@ fn count(next: &Next) -> usize {
     }
 }
 
-#[test]
-fn services_are_listed_and_removed(rt: HostRuntime) -> Result<(), Fail> {
-    let mut launcher = pending(rt.alloc())?;
-    let _ = launcher.goes_on(message(rt.alloc(), 5, b"LIST".as_slice(), None)?)?;
+// ---- what it does on an input
+
+fn then_launches(launcher: &mut Launcher, input: Input) -> Result<bool, NoMemory> {
+    let next = launcher.goes_on(input)?;
+    Ok(matches!(&next, Next::Ask(Request::Launch(_, args)) if args.as_slice().len() == 1))
+}
+
+fn then_is_idle(launcher: &mut Launcher, input: Input) -> Result<bool, NoMemory> {
+    let next = launcher.goes_on(input)?;
+    Ok(matches!(&next, Next::Idle))
+}
+
+fn then_looks_up(launcher: &mut Launcher, input: Input, handle: u32) -> Result<bool, NoMemory> {
+    let next = launcher.goes_on(input)?;
+    Ok(looks_up(&next, handle))
+}
+
+fn then_puts(
+    launcher: &mut Launcher,
+    input: Input,
+    handle: u32,
+    kind: Kind,
+    session: u64,
+) -> Result<bool, NoMemory> {
+    let next = launcher.goes_on(input)?;
+    Ok(puts(&next, handle, kind, session))
+}
+
+/// Whether service 3 has the answer to its launch: the handle.
+fn then_answers(launcher: &mut Launcher, input: Input, handle: i64) -> Result<bool, NoMemory> {
+    let next = launcher.goes_on(input)?;
+    Ok(puts(&next, 3, Kind::Response, 1) && tells(&next, handle))
+}
+
+/// How many services it lists for service 5.
+fn listed(launcher: &mut Launcher, alloc: Global) -> Result<usize, NoMemory> {
+    let _ = launcher.goes_on(message(alloc, 5, b"LIST".as_slice(), None)?)?;
     let next = launcher.goes_on(found(5))?;
-    assert_eq!(rt; count(&next), 2);
-    let _ = launcher.goes_on(Input::Answer(Answer::Flag(true)))?;
-    let mut body = Body::new(rt.alloc());
-    body.push(Datum::Text(Bytes::from_slice(rt.alloc(), b"REMOVE")?))?;
+    Ok(count(&next))
+}
+
+fn done() -> Input {
+    Input::Answer(Answer::Flag(true))
+}
+
+#[test]
+fn a_launch_is_pending_until_its_service_has_started(rt: HostRuntime) -> Result<(), Fail> {
+    let mut launcher = launcher(rt.alloc())?;
+    let launches = then_launches(&mut launcher, launch(rt.alloc())?)?;
+    assert!(rt; launches);
+    let waits = then_is_idle(&mut launcher, found(4))?;
+    assert!(rt; waits);
+    Ok(())
+}
+
+#[test]
+fn a_launch_is_answered_once(rt: HostRuntime) -> Result<(), Fail> {
+    let mut launcher = pending(rt.alloc())?;
+    let started = message(rt.alloc(), 4, b"LAUNCHOK".as_slice(), None)?;
+    let asks = then_looks_up(&mut launcher, started, 3)?;
+    assert!(rt; asks);
+    let answers = then_answers(&mut launcher, found(3), 4)?;
+    assert!(rt; answers);
+    let rests = then_is_idle(&mut launcher, done())?;
+    assert!(rt; rests);
+    let again = message(rt.alloc(), 4, b"LAUNCHOK".as_slice(), None)?;
+    let passes = then_is_idle(&mut launcher, again)?;
+    assert!(rt; passes);
+    Ok(())
+}
+
+#[test]
+fn a_launch_that_fails_has_a_line(rt: HostRuntime) -> Result<(), Fail> {
+    let mut launcher = launcher(rt.alloc())?;
+    let _ = launcher.goes_on(launch(rt.alloc())?)?;
+    let failed = Input::Answer(Answer::Found(None));
+    let logs = then_puts(&mut launcher, failed, 1, Kind::Text, 0)?;
+    assert!(rt; logs);
+    let asks = then_looks_up(&mut launcher, done(), 3)?;
+    assert!(rt; asks);
+    let fails = then_puts(&mut launcher, found(3), 3, Kind::Error, 1)?;
+    assert!(rt; fails);
+    Ok(())
+}
+
+#[test]
+fn a_start_that_fails_is_told(rt: HostRuntime) -> Result<(), Fail> {
+    let mut launcher = pending(rt.alloc())?;
+    let failed = message(rt.alloc(), 4, b"ERROR".as_slice(), None)?;
+    let asks = then_looks_up(&mut launcher, failed, 3)?;
+    assert!(rt; asks);
+    let fails = then_puts(&mut launcher, found(3), 3, Kind::Error, 1)?;
+    assert!(rt; fails);
+    Ok(())
+}
+
+/// Whether service 4 is ended and marked at the word of service 5.
+fn kills(launcher: &mut Launcher, alloc: Global) -> Result<bool, NoMemory> {
+    let kill = message(alloc, 5, b"KILL".as_slice(), Some(Datum::Int(4)))?;
+    let next = launcher.goes_on(kill)?;
+    let retires = matches!(&next, Next::Ask(Request::Retire(h)) if h.0 == 4);
+    let next = launcher.goes_on(done())?;
+    Ok(retires && matches!(&next, Next::Ask(Request::Mark(h)) if h.0 == 4))
+}
+
+#[test]
+fn a_kill_is_told_to_both(rt: HostRuntime) -> Result<(), Fail> {
+    let mut launcher = pending(rt.alloc())?;
+    let marks = kills(&mut launcher, rt.alloc())?;
+    assert!(rt; marks);
+    let asks = then_looks_up(&mut launcher, Input::Answer(Answer::Done), 3)?;
+    assert!(rt; asks);
+    let fails = then_puts(&mut launcher, found(3), 3, Kind::Error, 1)?;
+    assert!(rt; fails);
+    let asks = then_looks_up(&mut launcher, done(), 5)?;
+    assert!(rt; asks);
+    let answers = then_puts(&mut launcher, found(5), 5, Kind::Response, 9)?;
+    assert!(rt; answers);
+    Ok(())
+}
+
+#[test]
+fn services_are_listed(rt: HostRuntime) -> Result<(), Fail> {
+    let mut launcher = pending(rt.alloc())?;
+    let count = listed(&mut launcher, rt.alloc())?;
+    assert_eq!(rt; count, 2);
+    Ok(())
+}
+
+/// Service 4 says that it ends.
+fn removal(alloc: Global) -> Result<Input, NoMemory> {
+    let mut body = Body::new(alloc);
+    body.push(Datum::Text(Bytes::from_slice(alloc, b"REMOVE")?))?;
     body.push(Datum::Int(4))?;
     body.push(Datum::Bool(false))?;
-    let removal = Message {
+    Ok(Input::Message(Message {
         source: Handle(4),
         session: Session(0),
         kind: Kind::Lua,
         body,
-    };
-    let next = launcher.goes_on(Input::Message(removal))?;
-    assert!(rt; looks_up(&next, 3));
-    let next = launcher.goes_on(found(3))?;
-    assert!(rt; puts(&next, 3, Kind::Response, 1));
-    let _ = launcher.goes_on(Input::Answer(Answer::Flag(true)))?;
-    let _ = launcher.goes_on(message(rt.alloc(), 5, b"LIST".as_slice(), None)?)?;
-    let next = launcher.goes_on(found(5))?;
-    assert_eq!(rt; count(&next), 1);
+    }))
+}
+
+#[test]
+fn a_removed_service_is_not_listed(rt: HostRuntime) -> Result<(), Fail> {
+    let mut launcher = pending(rt.alloc())?;
+    let asks = then_looks_up(&mut launcher, removal(rt.alloc())?, 3)?;
+    assert!(rt; asks);
+    let answers = then_puts(&mut launcher, found(3), 3, Kind::Response, 1)?;
+    assert!(rt; answers);
+    let _ = launcher.goes_on(done())?;
+    let count = listed(&mut launcher, rt.alloc())?;
+    assert_eq!(rt; count, 1);
     Ok(())
 }
 
@@ -179,9 +243,9 @@ fn services_are_listed_and_removed(rt: HostRuntime) -> Result<(), Fail> {
 fn what_it_does_not_know_fails(rt: HostRuntime) -> Result<(), Fail> {
     let mut launcher = launcher(rt.alloc())?;
     let kill = message(rt.alloc(), 5, b"KILL".as_slice(), Some(Datum::Int(-1)))?;
-    let next = launcher.goes_on(kill)?;
-    assert!(rt; looks_up(&next, 5));
-    let next = launcher.goes_on(found(5))?;
-    assert!(rt; puts(&next, 5, Kind::Error, 9));
+    let asks = then_looks_up(&mut launcher, kill, 5)?;
+    assert!(rt; asks);
+    let fails = then_puts(&mut launcher, found(5), 5, Kind::Error, 9)?;
+    assert!(rt; fails);
     Ok(())
 }
