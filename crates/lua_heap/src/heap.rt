@@ -2,7 +2,7 @@ ghost use Rattle.std.specs.Prelude.{◌≡◌, [], ◌∷◌, ◌+◌, ◌++◌,
 ghost use Rattle.lua_heap.specs.Contents.{empty, started, text_made, closure_made, cell_made, cell_written, function_at, cells_at};
 ghost use Rattle.lua_model.specs.Texts.{bytes_at};
 ghost use Rattle.lua_model.specs.Heap as model;
-ghost use Rattle.lua_model.specs.Heap.{charged, text_value};
+ghost use Rattle.lua_model.specs.Heap.{charged, holding, text_value};
 
 use crate::closure::Closure;
 use crate::fault::{HeapFault, HeapFull};
@@ -86,6 +86,16 @@ impl Heap {
         self.texts.bytes(text)
     }
 
+    /// The value of a string of the source: it is no new one, and costs no unit.
+    pub fn constant(&mut self, bytes: &[u8]) -> Result<Value, NoMemory>
+        ensures value { IfOk result (λ v. v ≡ text_value bytes.now self.old.shared) }
+        ensures ok { OnOk result (self.new ≡ record self.old { shared = holding bytes.now self.old.shared }) }
+        ensures err { OnErr result (self.new ≡ self.old) }
+    {
+        let number = self.texts.number(bytes)?;
+        Ok(Value::Text(number))
+    }
+
     /// A new closure of a function of the code over these cells.
     pub fn closure(&mut self, function: u64, cells: &[u64]) -> Result<Value, HeapFault>
         ensures value { IfOk result (λ v. v ≡ Value.Func (length self.old.closures)) }
@@ -122,6 +132,13 @@ impl Heap {
         ensures { Some result.now ≡ cells_at self.now closure }
     {
         self.closures[closure as usize].cells()
+    }
+
+    /// How many cells there are.
+    pub fn cell_count(&self) -> usize
+        ensures { result ≡ length self.now.cells }
+    {
+        self.cells.len()
     }
 
     /// A new cell with this value, which costs no unit.

@@ -2,7 +2,7 @@
 #![tactic(auto)]
 
 mod answer;
-mod integer;
+pub mod integer;
 mod one_operand;
 mod two_operands;
 

@@ -255,12 +255,12 @@ perform_lower n code (op.DotsTo to count) m f pays lt fits = next_lower n (rank 
 perform_lower n code (op.Spread to count) m f pays lt fits = list_lower n (rank n m) m.top.lists _ (λ vs ls. next_lower n (rank n m) (with_slots to (adjusted count vs) (with_lists ls m)) lt (le_self (rank n m)))
 perform_lower n code (op.Item to i) m f pays lt fits = list_lower n (rank n m) m.top.lists _ (λ vs ls. next_lower n (rank n m) (with_slot to (value_at vs i) m) lt (le_self (rank n m)))
 perform_lower n code (op.CallList base) m f pays lt fits =
-    list_lower n (rank n m) m.top.lists _ (λ l ls. applied_lower n (rank n m) l _ (λ g vs. calls_lower n (rank n m) code (Some (line code m)) g vs _ OnTop (with_lists ls m).top m pays refl lt (le_self (rank n m))))
+    list_lower n (rank n m) m.top.lists _ (λ l ls. applied_lower n (rank n m) l _ (λ g vs. calls_lower n (rank n m) code (Some (line code m)) g vs _ OnTop (with_lists ls m).top (with_lists ls m) pays refl lt (le_self (rank n m))))
 perform_lower n code (op.TailCallList base) m f pays lt fits =
-    list_lower n (rank n m) m.top.lists _ (λ l ls. applied_lower n (rank n m) l _ (λ g vs. tail_lower n (rank n m) code (line code m) g vs _ OnTop (with_lists ls m).top m pays refl lt (le_self (rank n m))))
-perform_lower n code op.ReturnList m f pays lt fits = list_lower n (rank n m) m.top.lists _ (λ vs ls. hand_lower n (rank n m) vs m.below m (omega arith))
+    list_lower n (rank n m) m.top.lists _ (λ l ls. applied_lower n (rank n m) l _ (λ g vs. tail_lower n (rank n m) code (line code m) g vs _ OnTop (with_lists ls m).top (with_lists ls m) pays refl lt (le_self (rank n m))))
+perform_lower n code op.ReturnList m f pays lt fits = list_lower n (rank n m) m.top.lists _ (λ vs ls. hand_lower n (rank n m) vs m.below (with_lists ls m) (omega arith))
 perform_lower n code op.Start m f pays lt fits =
-    list_lower n (rank n m) m.top.lists _ (λ l ls. applied_lower n (rank n m) l _ (λ g vs. calls_lower n (rank n m) code None g vs m.top.base OnTop (with_lists ls m).top m pays refl lt (le_self (rank n m))))
+    list_lower n (rank n m) m.top.lists _ (λ l ls. applied_lower n (rank n m) l _ (λ g vs. calls_lower n (rank n m) code None g vs m.top.base OnTop (with_lists ls m).top (with_lists ls m) pays refl lt (le_self (rank n m))))
 
 -- ---- valid code
 at_within : (code : Code) (f a : ℕ) (o : Op) → op_at code f a ≡ Some o → a < total code

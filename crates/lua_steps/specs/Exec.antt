@@ -103,6 +103,13 @@ abbrev pub applied : List Value → (Value → List Value → Went) → Went
 applied [] go = Stuck
 applied (f ∷ vs) go = go f vs
 
+-- the list is taken off before the call
+abbrev pub calls_listed : Code → Option ℕ → Value → List Value → ℕ → Machine → Went
+calls_listed code line f vs base m = calls code line f vs base (waiting OnTop m.top) m
+
+abbrev pub tail_calls_listed : Code → ℕ → Value → List Value → ℕ → Machine → Went
+tail_calls_listed code line f vs base m = tail_calls code line f vs base (waiting OnTop m.top) m
+
 abbrev pub perform : Code → Op → Machine → Went
 perform code (op.Nil to) m = gives to value.Nil m
 perform code (op.Bool to b) m = gives to (value.Bool b) m
@@ -158,12 +165,11 @@ perform code (op.DotsTo to count) m = next (with_slots to (adjusted count m.top.
 perform code (op.Spread to count) m = on_list m.top.lists (λ vs ls. next (with_slots to (adjusted count vs) (with_lists ls m)))
 perform code (op.Item to i) m = on_list m.top.lists (λ vs ls. gives to (value_at vs i) m)
 perform code (op.CallList base) m =
-    on_list m.top.lists (λ l ls. applied l (λ f vs. calls code (Some (line code m)) f vs (m.top.base + base) (waiting OnTop (with_lists ls m).top) m))
+    on_list m.top.lists (λ l ls. applied l (λ f vs. calls_listed code (Some (line code m)) f vs (m.top.base + base) (with_lists ls m)))
 perform code (op.TailCallList base) m =
-    on_list m.top.lists (λ l ls. applied l (λ f vs. tail_calls code (line code m) f vs (m.top.base + base) (waiting OnTop (with_lists ls m).top) m))
-perform code op.ReturnList m = on_list m.top.lists (λ vs ls. hand vs m.below m)
-perform code op.Start m =
-    on_list m.top.lists (λ l ls. applied l (λ f vs. calls code None f vs m.top.base (waiting OnTop (with_lists ls m).top) m))
+    on_list m.top.lists (λ l ls. applied l (λ f vs. tail_calls_listed code (line code m) f vs (m.top.base + base) (with_lists ls m)))
+perform code op.ReturnList m = on_list m.top.lists (λ vs ls. hand vs m.below (with_lists ls m))
+perform code op.Start m = on_list m.top.lists (λ l ls. applied l (λ f vs. calls_listed code None f vs m.top.base (with_lists ls m)))
 
 abbrev pub perform_at : Option Op → Code → Machine → Went
 perform_at None code m = Stuck

@@ -3,6 +3,7 @@
 use Rattle.std.specs.Prelude.{ℕ, List}
 use Rattle.lua_value.specs.declared.value.Value.{Value}
 use Rattle.lua_model.specs.Heap as model
+use Rattle.lua_heap.specs.Contents.{Made}
 use Rattle.lua_code.specs.Routine.{Routine}
 
 abbrev pub Code : Type 0
@@ -32,9 +33,8 @@ pub record Frame : Type 0 where
   pub wants : Wanted
 
 -- a function of the code, with the cells that it captured
-pub record Closure : Type 0 where
-  pub function : ℕ
-  pub cells : List ℕ
+abbrev pub Closure : Type 0
+Closure = Made
 
 -- a thread that does not run
 pub data Thread : Type 0 where

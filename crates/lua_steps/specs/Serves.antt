@@ -14,7 +14,7 @@ use Rattle.lua_steps.specs.Machine.{Code}
 use Rattle.lua_steps.specs.Exec.{constant_at}
 use Rattle.lua_steps.specs.declared.scope.Known.{Known}
 use Rattle.lua_steps.specs.Scope.{Scope, place_of, in_slot, in_cell, Inside}
-use Rattle.lua_steps.specs.Stand.{At, AtSome, Leads, Ticks, Tick, IsNils, Target, Into, Anywhere, Decided, Shown, Reg, Imm, Holds, Fails, register, WhereAnywhere, WhereDecided, IsThere, OfReg, Branch, IsGet, IsPut, WhereInSlot, IsDeclares, IsInt, IsBinary, test_op, IsUnary, linked_as, so_far, Want, Count, AsList, AsResult, IsCall, IsWanted, from_slots, from_items, IsNumeric, IsGeneric, IsWrites, WhereSome, WhereOne}
+use Rattle.lua_steps.specs.Stand.{At, AtSome, Leads, Ticks, Tick, IsNils, Target, Into, Anywhere, Decided, Shown, Reg, Imm, Holds, Fails, register, WhereAnywhere, WhereDecided, IsThere, OfReg, IsOperand, Branch, IsGet, IsPut, WhereInSlot, IsDeclares, IsInt, IsBinary, test_op, IsUnary, linked_as, so_far, Want, Count, AsList, AsResult, IsCall, IsWanted, from_slots, from_items, IsNumeric, IsGeneric, IsWrites, WhereSome, WhereOne}
 
 -- ---- what the code asks of trees
 -- an expression that gives one value wherever it stands
@@ -83,7 +83,7 @@ abbrev mutual
       ⊎ WhereDecided t (Branch code f a p
       (λ k b. IsOperands code f sc os b d (Holds k) t R)
       (λ b. IsExp code f sc e b d Decided (λ c q. IsOperands code f sc os c d q t R))))
-      (λ u. IsExp code f sc e a (d + 1) Anywhere (λ b q.
+      (λ u. IsOperand p × IsExp code f sc e a (d + 1) Anywhere (λ b q.
       (IsBinary code f b u (so_far os t d) p q line × IsOperands code f sc os (b + 1) d (Reg (so_far os t d)) t R)
       ⊎ WhereDecided t ((pay z : ℕ) × AtSome code f b (test_op u p q pay z) line
       × Leads code f (b + 1) (λ j. IsOperands code f sc os j d (Holds pay) t R)

@@ -85,9 +85,15 @@ WhereDecided (Into r) P = ⊥
 WhereDecided Anywhere P = ⊥
 WhereDecided Decided P = P
 
+-- an operator takes the value as it is shown so
+abbrev pub IsOperand : Shown → Type 0
+IsOperand (Reg r) = Unit {0}
+IsOperand (Imm n) = Unit {0}
+IsOperand _ = ⊥
+
 abbrev pub IsThere : Target → Shown → Type 0
 IsThere (Into r) p = p ≡ Reg r
-IsThere Anywhere p = Unit {0}
+IsThere Anywhere p = IsOperand p
 IsThere Decided p = Unit {0}
 
 abbrev pub OfReg : Shown → (ℕ → Type 0) → Type 0
@@ -210,7 +216,6 @@ IsUnary code f a o t d (Reg x) line R = AtLine code f a (op.Unary o (register t 
 IsUnary code f a unary.Minus t d (Imm n) line R =
     (IsInt code f a (register t d) (lua.minus n) × R (a + 1) (Reg (register t d))) ⊎ WhereAnywhere t (R a (Imm (lua.minus n)))
 IsUnary code f a unary.Not t d (Imm n) line R = WhereDecided t (R a Fails)
-IsUnary code f a unary.Not t d (Not x) line R = WhereDecided t (R a (Reg x))
 IsUnary code f a unary.Not t d (Holds pay) line R = (pay ≡ 0) × WhereDecided t (R a Fails)
 IsUnary code f a unary.Not t d Fails line R = WhereDecided t (R a (Holds 0))
 IsUnary code f a o t d p line R = ⊥
