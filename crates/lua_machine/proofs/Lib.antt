@@ -1,0 +1,5 @@
+pub mod RowLemmas
+pub mod RunLemmas
+pub mod CallLemmas
+pub mod LoopLemmas
+pub mod QuickLemmas

@@ -1,0 +1,4 @@
+pub mod Wants
+pub mod Views
+pub mod Runs
+pub mod Quick

@@ -1,0 +1,21 @@
+//! The machine that runs compiled Lua: it does what each operation says, up to the end of the thread, a limit, or a call of the host.
+#![tactic(auto)]
+
+mod calls;
+mod cells;
+mod frame;
+mod lists;
+mod loops;
+mod machine;
+mod pace;
+mod perform;
+mod quick;
+mod run;
+mod state;
+mod stop;
+
+pub use machine::Machine;
+pub use stop::{GoError, NativeCall, Stop};
+
+#[cfg(test)]
+mod tests;

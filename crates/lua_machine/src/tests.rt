@@ -1,0 +1,389 @@
+//! With ample memory no call answers want of it. What the code gives was taken from Lua 5.4.
+
+use crate::{GoError, Machine, Stop};
+use lua_code::{Capture, Code, Function, Op, Shape, valid};
+use lua_model::Binary;
+use lua_value::{Value, Values};
+use sk_types::Bytes;
+use std::alloc::Global;
+use std::test::Fail;
+
+/// A function of these operations, all on line 7.
+fn function(alloc: Global, params: u16, ops: &[Op]) -> Result<Function, Fail> {
+    let shape = Shape {
+        params,
+        pay: 1,
+        has_dots: true,
+        slots: 8,
+        cells: 1,
+    };
+    let mut function = Function::new(alloc, shape);
+    for op in ops {
+        function.add(*op, 7)?;
+    }
+    Ok(function)
+}
+
+/// A chunk, and one function that it may close.
+fn code(alloc: Global, called: Function, ops: &[Op]) -> Result<Code, Fail> {
+    let mut code = Code::new(alloc);
+    code.add(function(alloc, 0, &[Op::Append, Op::Start, Op::ReturnList])?)?;
+    code.add(called)?;
+    code.add(function(alloc, 0, ops)?)?;
+    Ok(code)
+}
+
+/// A machine for this code, which is to be valid.
+fn machine(alloc: Global, code: Code, budget: u64, units: u64) -> Result<Machine, Fail> {
+    if !valid(&code) {
+        return Err(Fail::from("the code is not valid"));
+    }
+    let name = Bytes::from_slice(alloc, b"m")?;
+    let machine = Machine::new(alloc, code, name, budget, units)?;
+    Ok(machine)
+}
+
+fn started(alloc: Global, called: &[Op], ops: &[Op]) -> Result<Machine, Fail> {
+    let called = function(alloc, 2, called)?;
+    machine(alloc, code(alloc, called, ops)?, 100, 100)
+}
+
+fn integers(stop: Result<Stop, GoError>, wanted: &[i64]) -> bool {
+    let Ok(Stop::Return(values)) = stop else {
+        return false;
+    };
+    if values.len() != wanted.len() {
+        return false;
+    }
+    for i in 0..wanted.len() {
+        if values.get(i) != Value::Int(wanted[i]) {
+            return false;
+        }
+    }
+    true
+}
+
+/// Whether the chunk returns these integers.
+fn gives(alloc: Global, called: &[Op], ops: &[Op], wanted: &[i64]) -> Result<bool, Fail> {
+    let mut machine = started(alloc, called, ops)?;
+    Ok(integers(machine.go(Values::new(alloc)), wanted))
+}
+
+const NOTHING: [Op; 1] = [Op::Return { from: 0, count: 0 }];
+
+#[test]
+fn a_sum_is_returned(rt: HostRuntime) -> Result<(), Fail> {
+    let ops = [
+        Op::Int { to: 0, value: 2 },
+        Op::Int { to: 1, value: 40 },
+        Op::Add {
+            to: 2,
+            left: 0,
+            right: 1,
+        },
+        Op::Return { from: 2, count: 1 },
+    ];
+    assert!(rt; gives(rt.alloc(), &NOTHING, &ops, &[42])?);
+    Ok(())
+}
+
+#[test]
+fn operators_are_those_of_lua(rt: HostRuntime) -> Result<(), Fail> {
+    let ops = [
+        Op::Int { to: 0, value: 7 },
+        Op::Int { to: 1, value: -2 },
+        Op::Binary {
+            op: Binary::FloorDiv,
+            to: 2,
+            left: 0,
+            right: 1,
+        },
+        Op::Binary {
+            op: Binary::Mod,
+            to: 3,
+            left: 0,
+            right: 1,
+        },
+        Op::Sub {
+            to: 4,
+            left: 0,
+            right: 1,
+        },
+        Op::Int { to: 1, value: 64 },
+        Op::Binary {
+            op: Binary::ShiftLeft,
+            to: 5,
+            left: 0,
+            right: 1,
+        },
+        Op::Return { from: 2, count: 4 },
+    ];
+    assert!(rt; gives(rt.alloc(), &NOTHING, &ops, &[-4, -1, 9, 0])?);
+    Ok(())
+}
+
+/// a = 0  for i = 1, 3 do a = a + i end  return a
+fn three_turns(alloc: Global, budget: u64) -> Result<Machine, Fail> {
+    let ops = [
+        Op::Int { to: 0, value: 0 },
+        Op::Int { to: 1, value: 1 },
+        Op::Int { to: 2, value: 3 },
+        Op::Int { to: 3, value: 1 },
+        Op::ForPrep {
+            pay: 1,
+            base: 1,
+            at: 7,
+        },
+        Op::Add {
+            to: 0,
+            left: 0,
+            right: 4,
+        },
+        Op::ForLoop {
+            pay: 1,
+            base: 1,
+            at: 5,
+        },
+        Op::Return { from: 0, count: 1 },
+    ];
+    let called = function(alloc, 2, &NOTHING)?;
+    machine(alloc, code(alloc, called, &ops)?, budget, 100)
+}
+
+fn turns_within(alloc: Global, budget: u64) -> Result<bool, Fail> {
+    let mut machine = three_turns(alloc, budget)?;
+    Ok(integers(machine.go(Values::new(alloc)), &[6]))
+}
+
+fn turns_pass(alloc: Global, budget: u64) -> Result<bool, Fail> {
+    let mut machine = three_turns(alloc, budget)?;
+    let stop = machine.go(Values::new(alloc));
+    Ok(matches!(stop, Ok(Stop::Budget)))
+}
+
+/// The entry and each turn cost a tick.
+#[test]
+fn the_budget_is_passed_exactly(rt: HostRuntime) -> Result<(), Fail> {
+    assert!(rt; turns_within(rt.alloc(), 4)?);
+    assert!(rt; turns_pass(rt.alloc(), 3)?);
+    assert!(rt; turns_pass(rt.alloc(), 0)?);
+    Ok(())
+}
+
+/// function(a, b) return b, a end
+const TURNED: [Op; 4] = [
+    Op::Begin,
+    Op::Push { from: 1 },
+    Op::Push { from: 0 },
+    Op::ReturnList,
+];
+
+#[test]
+fn a_call_returns_to_its_place(rt: HostRuntime) -> Result<(), Fail> {
+    let ops = [
+        Op::Close { to: 0, function: 1 },
+        Op::Int { to: 1, value: 5 },
+        Op::Move { to: 2, from: 0 },
+        Op::Int { to: 3, value: 7 },
+        Op::Int { to: 4, value: 9 },
+        Op::Call {
+            base: 2,
+            args: 2,
+            results: 3,
+        },
+        Op::Nil { to: 0 },
+        Op::Return { from: 1, count: 3 },
+    ];
+    assert!(rt; gives(rt.alloc(), &TURNED, &ops, &[5, 9, 7])?);
+    Ok(())
+}
+
+/// function(a, b, ...) return b, ... end
+const DROPS_FIRST: [Op; 5] = [
+    Op::Begin,
+    Op::Push { from: 1 },
+    Op::Dots,
+    Op::Append,
+    Op::ReturnList,
+];
+
+fn listed(last: Op) -> [Op; 12] {
+    [
+        Op::Close { to: 0, function: 1 },
+        Op::Begin,
+        Op::Push { from: 0 },
+        Op::Int { to: 1, value: 1 },
+        Op::Push { from: 1 },
+        Op::Int { to: 1, value: 2 },
+        Op::Push { from: 1 },
+        Op::Int { to: 1, value: 3 },
+        Op::Push { from: 1 },
+        Op::Push { from: 1 },
+        last,
+        Op::ReturnList,
+    ]
+}
+
+#[test]
+fn lists_are_called_whole(rt: HostRuntime) -> Result<(), Fail> {
+    let call = listed(Op::CallList { base: 2 });
+    assert!(rt; gives(rt.alloc(), &DROPS_FIRST, &call, &[2, 3, 3])?);
+    let tail = listed(Op::TailCallList { base: 2 });
+    assert!(rt; gives(rt.alloc(), &DROPS_FIRST, &tail, &[2, 3, 3])?);
+    Ok(())
+}
+
+#[test]
+fn a_tail_call_gives_its_results(rt: HostRuntime) -> Result<(), Fail> {
+    let ops = [
+        Op::Close { to: 0, function: 1 },
+        Op::Int { to: 1, value: 7 },
+        Op::Int { to: 2, value: 9 },
+        Op::TailCall { base: 0, args: 2 },
+        Op::ReturnList,
+    ];
+    assert!(rt; gives(rt.alloc(), &TURNED, &ops, &[9, 7])?);
+    Ok(())
+}
+
+/// A function that adds 1 to the local that it captures.
+fn adds(alloc: Global) -> Result<Function, Fail> {
+    let ops = [
+        Op::GetUp { to: 0, up: 0 },
+        Op::AddInt {
+            to: 0,
+            left: 0,
+            value: 1,
+        },
+        Op::SetUp { up: 0, from: 0 },
+        Op::Return { from: 0, count: 0 },
+    ];
+    let mut adds = function(alloc, 0, &ops)?;
+    adds.add_capture(Capture::Cell(0))?;
+    Ok(adds)
+}
+
+/// local a = 1  local function f() a = a + 1 end  f()  f()  return a
+fn counter(alloc: Global) -> Result<Machine, Fail> {
+    let ops = [
+        Op::Int { to: 0, value: 1 },
+        Op::NewCell { cell: 0, from: 0 },
+        Op::Close { to: 1, function: 1 },
+        Op::Move { to: 2, from: 1 },
+        Op::Call {
+            base: 2,
+            args: 0,
+            results: 0,
+        },
+        Op::Move { to: 2, from: 1 },
+        Op::Call {
+            base: 2,
+            args: 0,
+            results: 0,
+        },
+        Op::GetCell { to: 2, cell: 0 },
+        Op::Return { from: 2, count: 1 },
+    ];
+    machine(alloc, code(alloc, adds(alloc)?, &ops)?, 100, 100)
+}
+
+#[test]
+fn a_closure_shares_its_cell(rt: HostRuntime) -> Result<(), Fail> {
+    let mut machine = counter(rt.alloc())?;
+    let stop = machine.go(Values::new(rt.alloc()));
+    assert!(rt; integers(stop, &[3]));
+    Ok(())
+}
+
+/// return (...)(42)
+fn asks(alloc: Global) -> Result<Machine, Fail> {
+    let ops = [
+        Op::DotsTo { to: 0, count: 1 },
+        Op::Int { to: 1, value: 42 },
+        Op::CallAll { base: 0, args: 1 },
+        Op::ReturnList,
+    ];
+    started(alloc, &NOTHING, &ops)
+}
+
+fn is_asked(stop: Result<Stop, GoError>) -> bool {
+    let Ok(Stop::Native(call)) = stop else {
+        return false;
+    };
+    call.called == Value::Native(5) && call.args.len() == 1 && call.args.get(0) == Value::Int(42)
+}
+
+#[test]
+fn the_host_is_called(rt: HostRuntime) -> Result<(), Fail> {
+    let mut machine = asks(rt.alloc())?;
+    let asked = machine.go(Values::one(rt.alloc(), Value::Native(5))?);
+    assert!(rt; is_asked(asked));
+    let given = Values::from_slice(rt.alloc(), &[Value::Int(1), Value::Int(2)])?;
+    assert!(rt; integers(machine.go(given), &[1, 2]));
+    Ok(())
+}
+
+fn raises(machine: &mut Machine, args: Values, text: &[u8]) -> bool {
+    let Ok(Stop::Raise(Value::Text(number))) = machine.go(args) else {
+        return false;
+    };
+    machine.heap().bytes(number) == text
+}
+
+#[test]
+fn an_error_tells_its_position(rt: HostRuntime) -> Result<(), Fail> {
+    let ops = [
+        Op::Nil { to: 0 },
+        Op::AddInt {
+            to: 0,
+            left: 0,
+            value: 1,
+        },
+        Op::Return { from: 0, count: 1 },
+    ];
+    let mut machine = started(rt.alloc(), &NOTHING, &ops)?;
+    let args = Values::new(rt.alloc());
+    assert!(rt;
+        raises(
+            &mut machine,
+            args,
+            b"m.lua:7: attempt to perform arithmetic on a nil value"
+        )
+    );
+    Ok(())
+}
+
+fn closes_within(alloc: Global, units: u64) -> Result<bool, Fail> {
+    let ops = [
+        Op::Close { to: 0, function: 1 },
+        Op::Close { to: 0, function: 1 },
+        Op::Return { from: 0, count: 0 },
+    ];
+    let called = function(alloc, 2, &NOTHING)?;
+    let mut machine = machine(alloc, code(alloc, called, &ops)?, 100, units)?;
+    let stop = machine.go(Values::new(alloc));
+    if matches!(stop, Ok(Stop::HeapFull)) {
+        return Ok(false);
+    }
+    Ok(integers(stop, &[]))
+}
+
+/// A closure costs a unit.
+#[test]
+fn the_heap_is_passed_exactly(rt: HostRuntime) -> Result<(), Fail> {
+    assert!(rt; closes_within(rt.alloc(), 2)?);
+    assert!(rt; !closes_within(rt.alloc(), 1)?);
+    Ok(())
+}
+
+#[test]
+fn a_machine_that_failed_is_spent(rt: HostRuntime) -> Result<(), Fail> {
+    let ops = [Op::Append, Op::Return { from: 0, count: 0 }];
+    let mut machine = started(rt.alloc(), &NOTHING, &ops)?;
+    let first = machine.go(Values::new(rt.alloc()));
+    assert!(rt; matches!(first, Err(GoError::Stuck)));
+    machine.begin();
+    let second = machine.go(Values::new(rt.alloc()));
+    assert!(rt; matches!(second, Err(GoError::Spent)));
+    Ok(())
+}
