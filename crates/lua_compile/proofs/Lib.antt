@@ -8,6 +8,7 @@ pub mod ServesRest
 pub mod ServesLoops
 pub mod ServesTerms
 pub mod Chunk
+pub mod CodeLemmas
 pub mod FoundForms
 pub mod FoundTerms
 pub mod Fit
@@ -15,5 +16,7 @@ pub mod FitForms
 pub mod FitLoops
 pub mod FitTerms
 pub mod ScopeLemmas
+pub mod LoopLemmas
+pub mod StatLemmas
 pub mod TargetLemmas
 pub mod TreeLemmas

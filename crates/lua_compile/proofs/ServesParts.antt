@@ -16,7 +16,7 @@ use Rattle.lua_steps.specs.declared.scope.Known.{Known}
 use Rattle.lua_steps.specs.Machine.{Code}
 use Rattle.lua_steps.specs.Scope.{Scope, place_of, in_slot, in_cell, past, Shares, Inside}
 use Rattle.lua_steps.specs.Stand as stand
-use Rattle.lua_steps.specs.Stand.{At, AtLine, AtSome, Ticks, Tick, IsNils, Shown, Reg, Imm, Not, Holds, Fails, WhereDecided, IsPut, IsDeclares, IsBinary, IsUnary, IsWanted, Write, Origin, FromSlot, FromItem, IsWrite, IsWrites, short_op, int_op, test_op}
+use Rattle.lua_steps.specs.Stand.{At, AtLine, AtSome, Ticks, Tick, IsNils, Shown, Reg, Imm, Not, Holds, Fails, IsOperand, WhereDecided, IsPut, IsDeclares, IsBinary, IsUnary, IsWanted, Write, Origin, FromSlot, FromItem, IsWrite, IsWrites, short_op, int_op, test_op}
 use Rattle.lua_compile.specs.declared.aim.Aim.{Aim}
 use Rattle.lua_compile.specs.declared.aim.Aim.TheVariants.{Into, Anywhere, Unless}
 use Rattle.lua_compile.specs.declared.aim.Operand.{Operand}
@@ -32,6 +32,11 @@ use Rattle.lua_compile.proofs.ServesForms.{put_in, stored_stands}
 
 pub two : (a : ℕ) (R : ℕ → Type 0) → R (a + 1 + 1) → R (a + 2)
 two a R r = (let e : a + 1 + 1 ≡ a + 2 = omega arith in subst R e r)
+
+-- an operand of the writer's is one that an operator takes
+pub is_operand : (p : Operand) → IsOperand (shown_of p)
+is_operand (Slot r) = tt
+is_operand (Held n) = tt
 
 -- ---- calls
 abbrev pub want_of : Want → stand.Want

@@ -30,7 +30,7 @@ use Rattle.lua_compile.proofs.KeptForms.{K, k_put, k_labelled, k_lost, k_counted
 use Rattle.lua_compile.proofs.KeptTerms.{on, labelled_three, k_numeric, k_generic, exp_kept, ands_kept, operands_kept, suffixes_kept, fixed_kept, values_kept, many_kept, list_kept, only_kept, body_kept, block_kept, stats_kept, stat_kept, else_kept}
 use Rattle.lua_compile.proofs.Final.{Final, part, back, at_op, at_constant, label_is, not_lost, never_lost, no_difference, and_left, and_right, Jumps, Given}
 use Rattle.lua_compile.proofs.ServesForms.{unsettled, settled_free, int_stands, int_serves, put_in, name_serves}
-use Rattle.lua_compile.proofs.ServesParts.{two, want_of, Follows, writes_serve, nils_serve, unary_serves, declares_serve, tick_serves, ticks_serve, twice_serves, wanted_serves, inside_all}
+use Rattle.lua_compile.proofs.ServesParts.{two, want_of, Follows, writes_serve, is_operand, nils_serve, unary_serves, declares_serve, tick_serves, ticks_serve, twice_serves, wanted_serves, inside_all}
 use Rattle.lua_compile.proofs.ServesRest.{one_of, not_true, direct_only, no_tail, by_bool, by_link, both_as, kept_slot, IsMore, branch_jumps, map_jumps, rest_of, operated, call_serves, pushed, returned, leads_on}
 use Rattle.lua_compile.proofs.ServesLoops.{three_more, two_more, one_more, get_map, Out, own, true_serves, given_base, returned_kept, below, same_place, set_long, no_else_ends, numeric_serves, generic_serves, targets_serve, only_known, by_slot, jump_serves, closed_as}
 
@@ -224,10 +224,12 @@ module _ (code : Code) where
         let i = if tests u os aim p d then y else z in
         let ki = k_if v y z (tests u os aim p d) (k_test v v u p q aim line (kept_self 0 v)) (k_last v _ os aim d r (k_binary v v u r p q line (kept_self 0 v))) in
         let fin_v = back code f L n v (operands_written os sc d aim (Slot r) i) h.0 (on v i (operands_written os sc d aim (Slot r) i) ki (operands_kept os sc d aim (Slot r) i)) in
-        let kb = k_binary v v u r p q line (kept_self 0 v) in
-        exp_serves e f L sc (d + 1) room w n _ le lv fin_v
-        (operated code f L (tests u os aim p d) os aim u p q sc d line v n R refl (kv.level lv) h.0 h.1
-        (λ lb m fi gi. operands_serves os f L sc d aim (Slot r) (binary_written u r p q line v) n R (omega (arith, le, kv.more, kb.more)) lb m fi gi)))
+        let kb = k_binary v v u r p q line (kept_self 0 v) in (
+          is_operand p,
+          exp_serves e f L sc (d + 1) room w n _ le lv fin_v
+              (operated code f L (tests u os aim p d) os aim u p q sc d line v n R refl (kv.level lv) h.0 h.1
+              (λ lb m fi gi. operands_serves os f L sc d aim (Slot r) (binary_written u r p q line v) n R (omega (arith, le, kv.more, kb.more)) lb m fi gi)),
+        ))
 
     pub suffixes_serves : (ss : Suffixes) (f : ℕ) (L : List ℕ) (sc : Scope) (d : ℕ) (a : Want) (w : Writer) (n : ℕ) (R : ℕ → Type 0) → n ≤ length w.labels → Level w
         → Final code f L n (where_none ss a d (suffixes_written ss sc d a w)) → Follows a R (where_none ss a d (suffixes_written ss sc d a w)).at → IsSuffixes code f sc ss w.at d (want_of a) R

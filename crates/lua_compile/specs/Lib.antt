@@ -5,4 +5,5 @@ pub mod Links
 pub mod Written
 pub mod Parts
 pub mod Laws
+pub mod Compiled
 pub mod Worked

@@ -104,6 +104,10 @@ impl<'a> Writer<'a> {
         })
     }
 
+    pub fn alloc(&self) -> Global {
+        self.alloc
+    }
+
     /// The code that was made, and whether something had none.
     pub fn into_parts(self) -> (Code, bool)
         ensures code { result.0 ≡ self.entry.made }
