@@ -130,27 +130,8 @@ module _ {S : Type 0} (way : Way S) (c : Levels S) (h : Handle) (two : IsTwo way
   follows (did.End ms) w2 x = stays (did.End ms) w2 x (λ a b o e. cc)
   follows (did.Tick due) w2 x = stays (did.Tick due) w2 x (λ a b o e. cc)
 
-  nexts : (what : What) (w2 : World S) → Acted way w h (what, w2) → length w.registry.listed < length w2.registry.listed → length w2.registry.listed ≡ length t.spots + 1
-  nexts (did.Launch text args (Some own)) w2 x l = (launched text args own w2 x).0 ∙ ap (λ n. n + 1) two.listed
-  nexts (did.Launch text args None) w2 x l = absurd (below_not (length w.registry.listed) (length w2.registry.listed) (given (did.Launch text args None) w2 x (λ a b o e. cc)) l)
-  nexts (did.Put to m b) w2 x l = absurd (below_not (length w.registry.listed) (length w2.registry.listed) (given (did.Put to m b) w2 x (λ a b2 o e. cc)) l)
-  nexts (did.Mark to) w2 x l = absurd (below_not (length w.registry.listed) (length w2.registry.listed) (given (did.Mark to) w2 x (λ a b o e. cc)) l)
-  nexts (did.Fire to m b) w2 x l = absurd (below_not (length w.registry.listed) (length w2.registry.listed) (given (did.Fire to m b) w2 x (λ a b2 o e. cc)) l)
-  nexts (did.Look d f) w2 x l = absurd (below_not (length w.registry.listed) (length w2.registry.listed) (given (did.Look d f) w2 x (λ a b o e. cc)) l)
-  nexts (did.Name text to b) w2 x l = absurd (below_not (length w.registry.listed) (length w2.registry.listed) (given (did.Name text to b) w2 x (λ a b2 o e. cc)) l)
-  nexts (did.Retire to b) w2 x l = absurd (below_not (length w.registry.listed) (length w2.registry.listed) (given (did.Retire to b) w2 x (λ a b2 o e. cc)) l)
-  nexts (did.Later n s) w2 x l = absurd (below_not (length w.registry.listed) (length w2.registry.listed) (given (did.Later n s) w2 x (λ a b o e. cc)) l)
-  nexts (did.Now n) w2 x l = absurd (below_not (length w.registry.listed) (length w2.registry.listed) (given (did.Now n) w2 x (λ a b o e. cc)) l)
-  nexts (did.Take m left) w2 x l = absurd (below_not (length w.registry.listed) (length w2.registry.listed) (given (did.Take m left) w2 x (λ a b o e. cc)) l)
-  nexts (did.End ms) w2 x l = absurd (below_not (length w.registry.listed) (length w2.registry.listed) (given (did.End ms) w2 x (λ a b o e. cc)) l)
-  nexts (did.Tick due) w2 x l = absurd (below_not (length w.registry.listed) (length w2.registry.listed) (given (did.Tick due) w2 x (λ a b o e. cc)) l)
-
 pub follows_act : {S : Type 0} (way : Way S) (c : Levels S) (h : Handle) (what : What) (w2 : World S) → IsTwo way c → act way c.world h ≡ Some (what, w2)
     → (p : Option Phase) → p ≡ phase way c.world h → followed p (length c.world.registry.listed) (length w2.registry.listed) c.turns ≡ turns_after c.turns what
 follows_act way c h what w2 two e p is =
     let x = acted way c.world h (what, w2) e in
     ap (λ q. followed q (length c.world.registry.listed) (length w2.registry.listed) c.turns) (is ∙ phase_was way c.world h what w2 x) ∙ follows way c h two what w2 x
-
-pub next_given : {S : Type 0} (way : Way S) (c : Levels S) (h : Handle) (what : What) (w2 : World S) → IsTwo way c → act way c.world h ≡ Some (what, w2)
-    → length c.world.registry.listed < length w2.registry.listed → length w2.registry.listed ≡ length c.turns.spots + 1
-next_given way c h what w2 two e l = nexts way c h two what w2 (acted way c.world h (what, w2) e) l

@@ -1,4 +1,5 @@
-//! Two workers over three small services, in several orders. What the workers did is done once more by one thread.
+//! Two workers over three small services, in several orders. What the services did is done once more by one thread: both come to one
+//! state and write the same text.
 ghost use Rattle.std.specs.Prelude.{◌<◌, IfOk, IfSome};
 ghost use Rattle.message.specs.Worlds.{over};
 ghost use Rattle.call_fates.specs.Reached.{IsOpening};
@@ -7,12 +8,13 @@ ghost use Rattle.three_actors.specs.Plays.{player_way, player_sound};
 
 use crate::{Action, Core};
 use call_fates::{CallKey, CallState, Fate};
-use message::InboxStatus;
-use sk_types::{Bytes, Handle, NoMemory, Session};
+use logger::line;
+use message::{Datum, InboxStatus, Message};
+use sk_types::{Bytes, Handle, Kind, NoMemory, Session};
 use std::alloc::Global;
 use std::test::Fail;
 use three_actors::{Player, Players, Role};
-use world_machine::World;
+use world_machine::{Phase, World};
 
 const KILLER: u32 = 1;
 
@@ -38,29 +40,113 @@ fn staffed(alloc: Global, workers: u32) -> Result<Option<Core<Player>>, NoMemory
     }
 }
 
-/// Whether each of these steps answers so in turn.
-fn walks(core: &mut Core<Player>, steps: &[(Action, bool)]) -> bool {
-    for (action, want) in steps {
-        match core.step(&Players, *action) {
-            Ok(done) => {
-                if done != *want {
-                    return false;
-                }
-            }
-            Err(_) => return false,
-        }
-    }
-    true
+/// A step of a walk, and what comes of it.
+#[derive(Clone, Copy)]
+enum Walk {
+    /// The worker has this service in hand, which does its next action.
+    Acts(u32, u32),
+    /// A step in which no service acts.
+    Does(Action),
+    /// A step that cannot be done.
+    Cannot(Action),
 }
 
-/// Whether each of these agents has an action in turn.
-fn acts(world: &mut World<Player>, agents: &[u32]) -> bool {
-    for agent in agents {
-        if world.act(&Players, Handle(*agent)).is_err() {
-            return false;
+/// The text that the logger takes next, where it is about to take one.
+fn text_ahead(world: &World<Player>) -> Option<&Message> {
+    if world.phase(Handle(KILLER)) != Some(Phase::Idle) {
+        return None;
+    }
+    let message = world.inbox(Handle(KILLER))?.waiting.get(0)?;
+    if matches!(message.kind, Kind::Text) {
+        Some(message)
+    } else {
+        None
+    }
+}
+
+fn written(alloc: Global, message: &Message) -> Result<Bytes, NoMemory> {
+    match message.body.as_slice() {
+        [Datum::Text(text), ..] => line(alloc, message.source, text),
+        _ => line(alloc, message.source, &Bytes::new(alloc)),
+    }
+}
+
+/// The line that the service's next action writes; empty where it writes none.
+fn line_ahead(alloc: Global, world: &World<Player>, service: u32) -> Result<Bytes, NoMemory> {
+    if service != KILLER {
+        return Ok(Bytes::new(alloc));
+    }
+    match text_ahead(world) {
+        Some(message) => written(alloc, message),
+        None => Ok(Bytes::new(alloc)),
+    }
+}
+
+fn acts(
+    alloc: Global,
+    core: &mut Core<Player>,
+    text: &mut Bytes,
+    worker: u32,
+    service: u32,
+) -> Result<bool, NoMemory> {
+    let line = line_ahead(alloc, core.world(), service)?;
+    text.push_slice(line.as_slice())?;
+    core.step(&Players, Action::Act(worker))
+}
+
+/// Whether it comes as the walk says; what is written goes to the text.
+fn goes(
+    alloc: Global,
+    core: &mut Core<Player>,
+    text: &mut Bytes,
+    walk: Walk,
+) -> Result<bool, NoMemory> {
+    match walk {
+        Walk::Acts(worker, service) => acts(alloc, core, text, worker, service),
+        Walk::Does(action) => core.step(&Players, action),
+        Walk::Cannot(action) => Ok(!core.step(&Players, action)?),
+    }
+}
+
+/// What workers write on their walk; none where something comes otherwise.
+fn walked(
+    alloc: Global,
+    core: &mut Core<Player>,
+    walks: &[Walk],
+) -> Result<Option<Bytes>, NoMemory> {
+    let mut text = Bytes::new(alloc);
+    for walk in walks {
+        if !goes(alloc, core, &mut text, *walk)? {
+            return Ok(None);
         }
     }
-    true
+    Ok(Some(text))
+}
+
+/// What one thread writes where the same services act in turn; none where one has no action.
+fn done(
+    alloc: Global,
+    world: &mut World<Player>,
+    walks: &[Walk],
+) -> Result<Option<Bytes>, NoMemory> {
+    let mut text = Bytes::new(alloc);
+    for walk in walks {
+        if let Walk::Acts(_, service) = walk {
+            match world.act(&Players, Handle(*service)) {
+                Ok(Some(line)) => text.push_slice(line.as_slice())?,
+                Ok(None) => {}
+                Err(_) => return Ok(None),
+            }
+        }
+    }
+    Ok(Some(text))
+}
+
+fn is_text(found: &Option<Bytes>, want: &[u8]) -> bool {
+    match found {
+        Some(text) => text.as_slice() == want,
+        None => false,
+    }
 }
 
 /// The fate of the caller's call.
@@ -99,13 +185,13 @@ fn is_same(one: &World<Player>, two: &World<Player>) -> bool {
     true
 }
 
-/// Two workers take these steps; and one thread does what they did. Whether both end in one state, in which the call has this
-/// fate.
+/// Two workers go this walk, and one thread does what the services did. Whether both write this text and end in one state, in which
+/// the call has this fate.
 fn plays(
     alloc: Global,
-    steps: &[(Action, bool)],
-    agents: &[u32],
-    want: Option<Fate>,
+    walks: &[Walk],
+    fate_is: Option<Fate>,
+    text: &[u8],
 ) -> Result<bool, NoMemory> {
     let Some(mut core) = staffed(alloc, 2)? else {
         return Ok(false);
@@ -113,16 +199,13 @@ fn plays(
     let Some(mut world) = opened(alloc)? else {
         return Ok(false);
     };
-    if !walks(&mut core, steps) {
+    if !is_text(&walked(alloc, &mut core, walks)?, text) {
         return Ok(false);
     }
-    if !acts(&mut world, agents) {
+    if !is_text(&done(alloc, &mut world, walks)?, text) {
         return Ok(false);
     }
-    if fate(core.world()) != want {
-        return Ok(false);
-    }
-    Ok(is_same(core.world(), &world))
+    Ok(fate(core.world()) == fate_is && is_same(core.world(), &world))
 }
 
 #[test]
@@ -139,122 +222,160 @@ fn core_first_steps(rt: HostRuntime) -> Result<(), Fail> {
 /// The caller and the echo are in two hands while the call goes to and fro.
 #[test]
 fn a_call_is_answered_between_two_workers(rt: HostRuntime) -> Result<(), Fail> {
-    let steps = [
-        (Action::Fetch(0), true),
-        (Action::Act(0), false),
-        (Action::Park(0), true),
-        (Action::Fetch(0), true),
-        (Action::Fetch(1), true),
-        (Action::Park(0), true),
-        (Action::Act(1), true),
-        (Action::Act(1), true),
-        (Action::Fetch(0), true),
-        (Action::Act(0), true),
-        (Action::Act(1), true),
-        (Action::Act(0), true),
-        (Action::Act(0), true),
-        (Action::Park(1), true),
-        (Action::Act(1), true),
-        (Action::Act(1), true),
-        (Action::Act(1), true),
-        (Action::Act(0), true),
-        (Action::Park(0), true),
-        (Action::Fetch(0), true),
-        (Action::Act(0), true),
-        (Action::Act(0), true),
-        (Action::Act(0), true),
-        (Action::Park(1), false),
-        (Action::Act(1), true),
-        (Action::Park(1), true),
-        (Action::Park(0), true),
-        (Action::Fetch(0), false),
-        (Action::Fetch(1), false),
-        (Action::Park(0), false),
-        (Action::Park(1), false),
-        (Action::Clock, false),
+    let walks = [
+        Walk::Does(Action::Fetch(0)),
+        Walk::Cannot(Action::Act(0)),
+        Walk::Does(Action::Park(0)),
+        Walk::Does(Action::Fetch(0)),
+        Walk::Does(Action::Fetch(1)),
+        Walk::Does(Action::Park(0)),
+        Walk::Acts(1, ECHO),
+        Walk::Acts(1, ECHO),
+        Walk::Does(Action::Fetch(0)),
+        Walk::Acts(0, CALLER),
+        Walk::Acts(1, ECHO),
+        Walk::Acts(0, CALLER),
+        Walk::Acts(0, CALLER),
+        Walk::Does(Action::Park(1)),
+        Walk::Acts(1, ECHO),
+        Walk::Acts(1, ECHO),
+        Walk::Acts(1, ECHO),
+        Walk::Acts(0, CALLER),
+        Walk::Acts(0, CALLER),
+        Walk::Does(Action::Park(0)),
+        Walk::Does(Action::Fetch(0)),
+        Walk::Acts(0, KILLER),
+        Walk::Acts(0, KILLER),
+        Walk::Acts(0, KILLER),
+        Walk::Cannot(Action::Park(1)),
+        Walk::Acts(0, KILLER),
+        Walk::Acts(1, ECHO),
+        Walk::Does(Action::Park(1)),
+        Walk::Does(Action::Park(0)),
+        Walk::Cannot(Action::Fetch(0)),
+        Walk::Cannot(Action::Fetch(1)),
+        Walk::Cannot(Action::Park(0)),
+        Walk::Cannot(Action::Park(1)),
+        Walk::Cannot(Action::Clock),
     ];
-    let agents = [
-        ECHO, ECHO, CALLER, ECHO, CALLER, CALLER, ECHO, ECHO, ECHO, CALLER, KILLER, KILLER, KILLER,
-        ECHO,
+    let text = b"[:00000003] \n[:00000002] answered\n";
+    assert!(rt; plays(rt.alloc(), &walks, Some(Fate::Answered), text)?);
+    Ok(())
+}
+
+/// The mark comes while the echo is about to answer, in another hand.
+#[test]
+fn a_marked_echo_still_answers(rt: HostRuntime) -> Result<(), Fail> {
+    let walks = [
+        Walk::Does(Action::Fetch(0)),
+        Walk::Does(Action::Exchange(0)),
+        Walk::Does(Action::Fetch(1)),
+        Walk::Acts(1, ECHO),
+        Walk::Acts(1, ECHO),
+        Walk::Acts(1, ECHO),
+        Walk::Acts(0, CALLER),
+        Walk::Acts(0, CALLER),
+        Walk::Acts(0, CALLER),
+        Walk::Acts(1, ECHO),
+        Walk::Does(Action::Exchange(0)),
+        Walk::Acts(0, KILLER),
+        Walk::Acts(0, KILLER),
+        Walk::Acts(0, KILLER),
+        Walk::Cannot(Action::Park(1)),
+        Walk::Acts(1, ECHO),
+        Walk::Acts(1, ECHO),
+        Walk::Acts(1, ECHO),
+        Walk::Does(Action::Park(1)),
+        Walk::Does(Action::Exchange(0)),
+        Walk::Acts(0, CALLER),
+        Walk::Acts(0, CALLER),
+        Walk::Does(Action::Park(0)),
+        Walk::Does(Action::Fetch(0)),
+        Walk::Acts(0, KILLER),
+        Walk::Does(Action::Park(0)),
+        Walk::Cannot(Action::Fetch(0)),
+        Walk::Cannot(Action::Fetch(1)),
+        Walk::Cannot(Action::Park(0)),
+        Walk::Cannot(Action::Park(1)),
+        Walk::Cannot(Action::Clock),
     ];
-    assert!(rt; plays(rt.alloc(), &steps, &agents, Some(Fate::Answered))?);
+    let text = b"[:00000003] \n[:00000002] answered\n";
+    assert!(rt; plays(rt.alloc(), &walks, Some(Fate::Answered), text)?);
     Ok(())
 }
 
 /// The mark comes while the echo is at home.
 #[test]
 fn a_kill_wakes_the_echo_at_home(rt: HostRuntime) -> Result<(), Fail> {
-    let steps = [
-        (Action::Fetch(0), true),
-        (Action::Park(0), true),
-        (Action::Fetch(0), true),
-        (Action::Park(0), true),
-        (Action::Fetch(0), true),
-        (Action::Act(0), true),
-        (Action::Act(0), true),
-        (Action::Act(0), true),
-        (Action::Park(0), true),
-        (Action::Fetch(0), true),
-        (Action::Fetch(1), true),
-        (Action::Act(1), true),
-        (Action::Act(1), true),
-        (Action::Act(1), true),
-        (Action::Act(0), true),
-        (Action::Act(0), true),
-        (Action::Park(0), true),
-        (Action::Park(1), true),
-        (Action::Fetch(1), true),
-        (Action::Act(1), true),
-        (Action::Park(1), true),
-        (Action::Fetch(0), false),
-        (Action::Fetch(1), false),
-        (Action::Park(0), false),
-        (Action::Park(1), false),
-        (Action::Clock, false),
+    let walks = [
+        Walk::Does(Action::Fetch(0)),
+        Walk::Does(Action::Park(0)),
+        Walk::Does(Action::Fetch(0)),
+        Walk::Does(Action::Park(0)),
+        Walk::Does(Action::Fetch(0)),
+        Walk::Acts(0, ECHO),
+        Walk::Acts(0, ECHO),
+        Walk::Acts(0, ECHO),
+        Walk::Does(Action::Park(0)),
+        Walk::Does(Action::Fetch(0)),
+        Walk::Does(Action::Fetch(1)),
+        Walk::Acts(1, KILLER),
+        Walk::Acts(1, KILLER),
+        Walk::Acts(1, KILLER),
+        Walk::Acts(0, CALLER),
+        Walk::Acts(0, CALLER),
+        Walk::Does(Action::Park(0)),
+        Walk::Does(Action::Park(1)),
+        Walk::Does(Action::Fetch(1)),
+        Walk::Acts(1, ECHO),
+        Walk::Does(Action::Park(1)),
+        Walk::Cannot(Action::Fetch(0)),
+        Walk::Cannot(Action::Fetch(1)),
+        Walk::Cannot(Action::Park(0)),
+        Walk::Cannot(Action::Park(1)),
+        Walk::Cannot(Action::Clock),
     ];
-    let agents = [
-        ECHO, ECHO, ECHO, KILLER, KILLER, KILLER, CALLER, CALLER, ECHO,
-    ];
-    assert!(rt; plays(rt.alloc(), &steps, &agents, None)?);
+    let text = b"[:00000003] \n";
+    assert!(rt; plays(rt.alloc(), &walks, None, text)?);
     Ok(())
 }
 
 /// The echo ends in one hand while its call waits.
 #[test]
 fn a_call_fails_where_the_echo_ends_first(rt: HostRuntime) -> Result<(), Fail> {
-    let steps = [
-        (Action::Fetch(0), true),
-        (Action::Exchange(0), true),
-        (Action::Fetch(1), true),
-        (Action::Act(1), true),
-        (Action::Act(1), true),
-        (Action::Act(1), true),
-        (Action::Act(0), true),
-        (Action::Act(0), true),
-        (Action::Act(0), true),
-        (Action::Exchange(0), true),
-        (Action::Act(0), true),
-        (Action::Act(0), true),
-        (Action::Act(0), true),
-        (Action::Act(1), true),
-        (Action::Exchange(1), false),
-        (Action::Act(1), true),
-        (Action::Act(1), true),
-        (Action::Park(1), true),
-        (Action::Exchange(0), true),
-        (Action::Act(0), true),
-        (Action::Park(0), true),
-        (Action::Fetch(0), true),
-        (Action::Park(0), true),
-        (Action::Fetch(0), false),
-        (Action::Fetch(1), false),
-        (Action::Park(0), false),
-        (Action::Park(1), false),
-        (Action::Clock, false),
+    let walks = [
+        Walk::Does(Action::Fetch(0)),
+        Walk::Does(Action::Exchange(0)),
+        Walk::Does(Action::Fetch(1)),
+        Walk::Acts(1, ECHO),
+        Walk::Acts(1, ECHO),
+        Walk::Acts(1, ECHO),
+        Walk::Acts(0, CALLER),
+        Walk::Acts(0, CALLER),
+        Walk::Acts(0, CALLER),
+        Walk::Does(Action::Exchange(0)),
+        Walk::Acts(0, KILLER),
+        Walk::Acts(0, KILLER),
+        Walk::Acts(0, KILLER),
+        Walk::Acts(1, ECHO),
+        Walk::Cannot(Action::Exchange(1)),
+        Walk::Acts(1, ECHO),
+        Walk::Acts(1, ECHO),
+        Walk::Does(Action::Park(1)),
+        Walk::Does(Action::Exchange(0)),
+        Walk::Acts(0, CALLER),
+        Walk::Acts(0, CALLER),
+        Walk::Does(Action::Park(0)),
+        Walk::Does(Action::Fetch(0)),
+        Walk::Acts(0, KILLER),
+        Walk::Does(Action::Park(0)),
+        Walk::Cannot(Action::Fetch(0)),
+        Walk::Cannot(Action::Fetch(1)),
+        Walk::Cannot(Action::Park(0)),
+        Walk::Cannot(Action::Park(1)),
+        Walk::Cannot(Action::Clock),
     ];
-    let agents = [
-        ECHO, ECHO, ECHO, CALLER, CALLER, CALLER, KILLER, KILLER, KILLER, ECHO, ECHO, ECHO, CALLER,
-    ];
-    assert!(rt; plays(rt.alloc(), &steps, &agents, Some(Fate::Failed))?);
+    let text = b"[:00000003] \n[:00000002] failed\n";
+    assert!(rt; plays(rt.alloc(), &walks, Some(Fate::Failed), text)?);
     Ok(())
 }

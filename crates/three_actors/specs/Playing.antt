@@ -1,9 +1,12 @@
 -- Three small services. A text rouses each: the echo rouses the caller and the killer, the caller calls the echo once, and
--- the killer ends the echo. Each answers every request that it takes.
-use Rattle.std.specs.Prelude.{ℕ, Bool, true, false, List, [], ◌∷◌, Option, Some, None}
+-- the killer, where the echo rouses it, ends the echo. The caller tells the killer how its call ended: as the killer is agent 1, the
+-- world writes that down. Each answers every request that it takes.
+use Rattle.std.specs.Prelude.{ℕ, ◌==◌, Bool, true, false, List, [], ◌∷◌, Option, Some, None, codes}
 use Rattle.sk_types.specs.declared.number.Handle.{Handle}
+use Rattle.sk_types.specs.declared.number.Kind.{Kind}
 use Rattle.sk_types.specs.declared.number.Kind.TheVariants as kind
-use Rattle.message.specs.Messages.{is_request, is_text, held_of}
+use Rattle.message.specs.Messages.{is_request, held_of}
+use Rattle.message.specs.declared.datum.Datum.TheVariants.{Text}
 use Rattle.message.specs.declared.request.Message.{Message}
 use Rattle.message.specs.declared.request.Held.{Held}
 use Rattle.message.specs.declared.request.Dest.TheVariants.{Number}
@@ -16,6 +19,8 @@ use Rattle.message.specs.declared.request.Next.{Next}
 use Rattle.message.specs.declared.request.Next.TheVariants as then_it
 use Rattle.three_actors.specs.declared.player.Role.{Role}
 use Rattle.three_actors.specs.declared.player.Role.TheVariants as roles
+use Rattle.three_actors.specs.declared.player.Outcome.{Outcome}
+use Rattle.three_actors.specs.declared.player.Outcome.TheVariants as outcomes
 use Rattle.three_actors.specs.declared.player.Task.{Task}
 use Rattle.three_actors.specs.declared.player.Task.TheVariants as tasks
 use Rattle.three_actors.specs.declared.player.Player.{Player}
@@ -30,21 +35,30 @@ pub record State : Type 0 where
 abbrev pub state_of : Player → State
 state_of p = record { own = p.own; role = p.role; called = p.called; task = p.task }
 
--- what a text rouses it to
-abbrev pub roused : Role → Bool → Task
-roused roles.Echo called = tasks.Rouses
-roused roles.Caller false = tasks.Looks
-roused roles.Caller true = tasks.Idle
-roused roles.Killer called = tasks.Retires
+-- what a text rouses it to, which may be the echo's
+abbrev pub roused : Role → Bool → Bool → Task
+roused roles.Echo called by_echo = tasks.Rouses
+roused roles.Caller false by_echo = tasks.Looks
+roused roles.Caller true by_echo = tasks.Idle
+roused roles.Killer called true = tasks.Retires
+roused roles.Killer called false = tasks.Idle
 
-abbrev pub heard_by : Role → Bool → Held → Bool → Bool → Task
-heard_by r called x true text = tasks.Seeks x
-heard_by r called x false true = roused r called
-heard_by r called x false false = tasks.Idle
+-- the caller's call has ended
+abbrev pub noted : Role → Outcome → Task
+noted roles.Caller o = tasks.Notes o
+noted roles.Echo o = tasks.Idle
+noted roles.Killer o = tasks.Idle
+
+abbrev pub heard_by : Role → Bool → Held → Bool → Kind → Bool → Task
+heard_by r called x true k by_echo = tasks.Seeks x
+heard_by r called x false kind.Text by_echo = roused r called by_echo
+heard_by r called x false kind.Response by_echo = noted r outcomes.Answered
+heard_by r called x false kind.Error by_echo = noted r outcomes.Failed
+heard_by r called x false kind.Lua by_echo = tasks.Idle
 
 -- a message is taken
 abbrev pub heard : Role → Bool → Message → Task
-heard r called m = heard_by r called (held_of m) (is_request m) (is_text m.kind)
+heard r called m = heard_by r called (held_of m) (is_request m) m.kind (m.source.0 == 3)
 
 -- an answer is taken
 abbrev pub told : Task → Answer → Task
@@ -84,6 +98,13 @@ call_by own = record { source = own; session = record { 0 = 1 }; kind = kind.Lua
 abbrev pub reply_by : Handle → Held → Message
 reply_by own x = record { source = own; session = x.session; kind = kind.Response; body = [] }
 
+abbrev pub word_of : Outcome → List ℕ
+word_of outcomes.Answered = codes "answered"
+word_of outcomes.Failed = codes "failed"
+
+abbrev pub note_by : Handle → Outcome → Message
+note_by own o = record { source = own; session = record { 0 = 0 }; kind = kind.Text; body = Text (word_of o) ∷ [] }
+
 abbrev pub next_of : Handle → Task → Next
 next_of own tasks.Idle = then_it.Idle
 next_of own tasks.Rouses = then_it.Ask (ask.Put caller (text_by own))
@@ -92,6 +113,7 @@ next_of own (tasks.Seeks x) = then_it.Ask (ask.Look (Number x.source.0))
 next_of own (tasks.Sends x) = then_it.Ask (ask.Put x.source (reply_by own x))
 next_of own tasks.Looks = then_it.Ask (ask.Look (Number 3))
 next_of own (tasks.Calls to) = then_it.Ask (ask.Put to (call_by own))
+next_of own (tasks.Notes o) = then_it.Ask (ask.Put killer (note_by own o))
 next_of own tasks.Retires = then_it.Ask (ask.Retire echo)
 next_of own tasks.Marks = then_it.Ask (ask.Mark echo)
 

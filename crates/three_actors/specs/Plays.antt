@@ -2,7 +2,9 @@
 use Rattle.std.specs.Prelude.{ℕ, ◌≡◌, ◌==◌, ◌<◌, Bool, true, false, List, [], ◌∷◌, Option, Some, None, Contains, slice_index_or, refl}
 use Rattle.std.proofs.Common.{arith, ap, sym, ◌∙◌, subst, inl, inr, zero, suc}
 use Rattle.sk_types.specs.declared.number.Handle.{Handle}
-use Rattle.message.specs.Messages.{is_request, is_text, held_of}
+use Rattle.sk_types.specs.declared.number.Kind.{Kind}
+use Rattle.sk_types.specs.declared.number.Kind.TheVariants as kind
+use Rattle.message.specs.Messages.{is_request, held_of}
 use Rattle.message.specs.Actors.{Way, Fits, IsStep, IsSound, IsLawful, Begins, drawn, MayMark}
 use Rattle.message.specs.declared.request.Message.{Message}
 use Rattle.message.specs.declared.request.Held.{Held}
@@ -12,9 +14,11 @@ use Rattle.message.specs.declared.request.Input.{Input}
 use Rattle.message.specs.declared.request.Input.TheVariants.{Message as Comes, Answer as Answers}
 use Rattle.three_actors.specs.declared.player.Role.{Role}
 use Rattle.three_actors.specs.declared.player.Role.TheVariants as roles
+use Rattle.three_actors.specs.declared.player.Outcome.{Outcome}
+use Rattle.three_actors.specs.declared.player.Outcome.TheVariants as outcomes
 use Rattle.three_actors.specs.declared.player.Task.{Task}
 use Rattle.three_actors.specs.declared.player.Task.TheVariants as tasks
-use Rattle.three_actors.specs.Playing.{State, heard_by, roused, calls_now, fed, next_of, reply_by, reply_of, known_of, asked_of, new_player, begins_by}
+use Rattle.three_actors.specs.Playing.{State, heard_by, roused, noted, calls_now, fed, next_of, reply_by, reply_of, known_of, asked_of, new_player, begins_by}
 
 abbrev pub player_way : Way State
 player_way = record {
@@ -70,6 +74,7 @@ sound_told own r called (tasks.Sends x) e = record {
 }
 sound_told own r called tasks.Looks e = record { replying = tt; puts = tt; reaches = tt; waits = tt }
 sound_told own r called (tasks.Calls to) e = record { replying = tt; puts = inl (refl, refl); reaches = inr (inr (inr (is_in to))); waits = tt }
+sound_told own r called (tasks.Notes o) e = record { replying = tt; puts = inl (refl, refl); reaches = inl refl; waits = tt }
 sound_told own r called tasks.Retires e = record { replying = tt; puts = tt; reaches = tt; waits = tt }
 sound_told own r called tasks.Marks e = record { replying = tt; puts = tt; reaches = tt; waits = tt }
 
@@ -100,11 +105,17 @@ module _ (own : Handle) (r : Role) (called : Bool) (e : (own.0 == 0) ≡ false) 
     },
   )
 
-  rouses : (q : Role) (b : Bool) (m : Message) → is_request m ≡ false → called ≡ b → Steps (at tasks.Idle) (Comes m) (at (roused q b))
-  rouses roles.Echo b m n is = quiet_step m tasks.Rouses n refl refl refl tt tt
-  rouses roles.Caller false m n is = quiet_step m tasks.Looks n refl refl refl tt is
-  rouses roles.Caller true m n is = quiet_step m tasks.Idle n refl refl refl tt tt
-  rouses roles.Killer b m n is = quiet_step m tasks.Retires n refl refl refl tt tt
+  rouses : (q : Role) (b by_echo : Bool) (m : Message) → is_request m ≡ false → called ≡ b → Steps (at tasks.Idle) (Comes m) (at (roused q b by_echo))
+  rouses roles.Echo b by_echo m n is = quiet_step m tasks.Rouses n refl refl refl tt tt
+  rouses roles.Caller false by_echo m n is = quiet_step m tasks.Looks n refl refl refl tt is
+  rouses roles.Caller true by_echo m n is = quiet_step m tasks.Idle n refl refl refl tt tt
+  rouses roles.Killer b true m n is = quiet_step m tasks.Retires n refl refl refl tt tt
+  rouses roles.Killer b false m n is = quiet_step m tasks.Idle n refl refl refl tt tt
+
+  notes : (q : Role) (o : Outcome) (m : Message) → is_request m ≡ false → Steps (at tasks.Idle) (Comes m) (at (noted q o))
+  notes roles.Caller o m n = quiet_step m (tasks.Notes o) n refl refl refl tt tt
+  notes roles.Echo o m n = quiet_step m tasks.Idle n refl refl refl tt tt
+  notes roles.Killer o m n = quiet_step m tasks.Idle n refl refl refl tt tt
 
   seeks : (m : Message) → is_request m ≡ true → Steps (at tasks.Idle) (Comes m) (at (tasks.Seeks (held_of m)))
   seeks m req = (
@@ -119,25 +130,34 @@ module _ (own : Handle) (r : Role) (called : Bool) (e : (own.0 == 0) ≡ false) 
     },
   )
 
-  hears : (m : Message) (req text : Bool) → is_request m ≡ req → Steps (at tasks.Idle) (Comes m) (at (heard_by r called (held_of m) req text))
-  hears m true text is = seeks m is
-  hears m false true is = rouses r called m is refl
-  hears m false false is = quiet_step m tasks.Idle is refl refl refl tt tt
+  hears : (m : Message) (req : Bool) (k : Kind) (by_echo : Bool) → is_request m ≡ req → Steps (at tasks.Idle) (Comes m) (at (heard_by r called (held_of m) req k by_echo))
+  hears m true k by_echo is = seeks m is
+  hears m false kind.Text by_echo is = rouses r called by_echo m is refl
+  hears m false kind.Response by_echo is = notes r outcomes.Answered m is
+  hears m false kind.Error by_echo is = notes r outcomes.Failed m is
+  hears m false kind.Lua by_echo is = quiet_step m tasks.Idle is refl refl refl tt tt
 
 -- a task that was roused is no call
-not_called : (r : Role) (called : Bool) (x : Held) (req text : Bool) → calls_now called (heard_by r called x req text) ≡ called
-not_called r called x true text = refl
-not_called r called x false false = refl
-not_called roles.Echo called x false true = refl
-not_called roles.Killer called x false true = refl
-not_called roles.Caller false x false true = refl
-not_called roles.Caller true x false true = refl
+not_called : (r : Role) (called : Bool) (x : Held) (req : Bool) (k : Kind) (by_echo : Bool) → calls_now called (heard_by r called x req k by_echo) ≡ called
+not_called r called x true k by_echo = refl
+not_called r called x false kind.Lua by_echo = refl
+not_called roles.Caller called x false kind.Response by_echo = refl
+not_called roles.Echo called x false kind.Response by_echo = refl
+not_called roles.Killer called x false kind.Response by_echo = refl
+not_called roles.Caller called x false kind.Error by_echo = refl
+not_called roles.Echo called x false kind.Error by_echo = refl
+not_called roles.Killer called x false kind.Error by_echo = refl
+not_called roles.Echo called x false kind.Text by_echo = refl
+not_called roles.Killer called x false kind.Text true = refl
+not_called roles.Killer called x false kind.Text false = refl
+not_called roles.Caller false x false kind.Text by_echo = refl
+not_called roles.Caller true x false kind.Text by_echo = refl
 
 message_step : (own : Handle) (r : Role) (called : Bool) (m : Message) → (own.0 == 0) ≡ false → Steps (record { own = own; role = r; called = called; task = tasks.Idle }) (Comes m) (fed (record { own = own; role = r; called = called; task = tasks.Idle }) (Comes m))
 message_step own r called m e =
-    let t = heard_by r called (held_of m) (is_request m) (is_text m.kind) in
-    subst (λ b. Steps (record { own = own; role = r; called = called; task = tasks.Idle }) (Comes m) (record { own = own; role = r; called = b; task = t })) (sym (not_called r called (held_of m) (is_request m) (is_text m.kind)))
-    (hears own r called e m (is_request m) (is_text m.kind) refl)
+    let t = heard_by r called (held_of m) (is_request m) m.kind (m.source.0 == 3) in
+    subst (λ b. Steps (record { own = own; role = r; called = called; task = tasks.Idle }) (Comes m) (record { own = own; role = r; called = b; task = t })) (sym (not_called r called (held_of m) (is_request m) m.kind (m.source.0 == 3)))
+    (hears own r called e m (is_request m) m.kind (m.source.0 == 3) refl)
 
 -- AN ANSWER
 
@@ -181,6 +201,7 @@ answer_step own r called tasks.Looks (Flag f) e first fits = absurd fits
 answer_step own r called tasks.Looks (Told n) e first fits = absurd fits
 answer_step own r called tasks.Looks Done e first fits = absurd fits
 answer_step own r called (tasks.Calls to) a e first fits = ((e, tt), record { named = refl; moves = refl; draws = omega arith; marks = tt; may_mark = tt; learns = λ k c. absurd (none_in k c) })
+answer_step own r called (tasks.Notes o) a e first fits = ((e, tt), record { named = refl; moves = refl; draws = omega arith; marks = tt; may_mark = tt; learns = λ k c. absurd (none_in k c) })
 answer_step own r called tasks.Retires (Flag true) e first fits = ((e, tt), record { named = refl; moves = refl; draws = omega arith; marks = refl; may_mark = inr refl; learns = λ k c. absurd (none_in k c) })
 answer_step own r called tasks.Retires (Flag false) e first fits = ((e, tt), record { named = refl; moves = refl; draws = omega arith; marks = tt; may_mark = tt; learns = λ k c. absurd (none_in k c) })
 answer_step own r called tasks.Retires (Found f) e first fits = absurd fits
@@ -196,6 +217,7 @@ not_message own (tasks.Seeks x) m f = absurd f
 not_message own (tasks.Sends x) m f = absurd f
 not_message own tasks.Looks m f = absurd f
 not_message own (tasks.Calls to) m f = absurd f
+not_message own (tasks.Notes o) m f = absurd f
 not_message own tasks.Retires m f = absurd f
 not_message own tasks.Marks m f = absurd f
 

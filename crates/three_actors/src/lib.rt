@@ -3,7 +3,7 @@
 
 mod player;
 
-pub use player::{Player, Players, Role, Task};
+pub use player::{Outcome, Player, Players, Role, Task};
 
 #[cfg(test)]
 mod tests;

@@ -1,10 +1,12 @@
-ghost use Rattle.std.specs.Prelude.{◌≡◌, ◌==◌, false};
+ghost use Rattle.std.specs.Prelude.{◌≡◌, ◌==◌, false, IfOk};
 ghost use Rattle.message.specs.Actors.{Begins};
-ghost use Rattle.three_actors.specs.Playing.{state_of, new_player, heard as heard_lem, told as told_lem, calls_now, next_of, text_by, call_by, reply_by};
+ghost use Rattle.three_actors.specs.Playing.{state_of, new_player, heard as heard_lem, told as told_lem, roused as roused_lem, noted as noted_lem, word_of, note_by, calls_now, next_of, text_by, call_by, reply_by};
 ghost use Rattle.three_actors.specs.declared.player.Task.TheVariants as tasks;
 ghost use Rattle.three_actors.specs.Plays.{player_way, player_sound};
 
-use message::{Actor, Answer, Body, Dest, Held, HeldList, Input, Maker, Message, Next, Request};
+use message::{
+    Actor, Answer, Body, Datum, Dest, Held, HeldList, Input, Maker, Message, Next, Request,
+};
 use sk_types::{Bytes, Handle, Kind, NoMemory, Session};
 use sqlite_items::Items;
 use std::alloc::Global;
@@ -16,8 +18,15 @@ pub enum Role {
     Caller,
     /// It rouses the caller, then the killer.
     Echo,
-    /// It ends the echo.
+    /// It ends the echo, once the echo rouses it.
     Killer,
+}
+
+/// How the caller's call ended.
+#[derive(Clone, Copy, Debug, PartialEq, Eq)]
+pub enum Outcome {
+    Answered,
+    Failed,
 }
 
 /// What a player is about to do. Each answers every request that it takes.
@@ -36,6 +45,8 @@ pub enum Task {
     Looks,
     /// It puts its call.
     Calls(Handle),
+    /// It puts a text to the killer, which tells how its call ended: a line of the log, since the killer is agent 1.
+    Notes(Outcome),
     /// The echo is to be listed no more.
     Retires,
     /// And its inbox is to close.
@@ -96,7 +107,7 @@ impl Actor for Player {
         };
         self.called = has_called(self.called, task);
         self.task = task;
-        Ok(next(self.alloc, self.own, task))
+        next(self.alloc, self.own, task)
     }
 
     fn held(&mut self) -> HeldList {
@@ -124,13 +135,30 @@ fn heard(role: Role, called: bool, message: &Message) -> Task
     if message.is_request() {
         return Task::Seeks(message.held_of());
     }
-    if !matches!(message.kind, Kind::Text) {
-        return Task::Idle;
+    match message.kind {
+        Kind::Text => roused(role, called, message.source.0 == ECHO.0),
+        Kind::Response => noted(role, Outcome::Answered),
+        Kind::Error => noted(role, Outcome::Failed),
+        Kind::Lua => Task::Idle,
     }
+}
+
+fn roused(role: Role, called: bool, by_echo: bool) -> Task
+    ensures { result ≡ roused_lem role called by_echo }
+{
     match role {
         Role::Echo => Task::Rouses,
-        Role::Killer => Task::Retires,
+        Role::Killer => { if by_echo { Task::Retires } else { Task::Idle } }
         Role::Caller => { if called { Task::Idle } else { Task::Looks } }
+    }
+}
+
+fn noted(role: Role, outcome: Outcome) -> Task
+    ensures { result ≡ noted_lem role outcome }
+{
+    match role {
+        Role::Caller => Task::Notes(outcome),
+        _ => Task::Idle,
     }
 }
 
@@ -182,10 +210,10 @@ fn has_called(called: bool, task: Task) -> bool
     }
 }
 
-fn next(alloc: Global, own: Handle, task: Task) -> Next
-    ensures { result ≡ next_of own task }
+fn next(alloc: Global, own: Handle, task: Task) -> Result<Next, NoMemory>
+    ensures { IfOk result (λ n. n ≡ next_of own task) }
 {
-    match task {
+    Ok(match task {
         Task::Idle => Next::Idle,
         Task::Rouses => Next::Ask(Request::Put(CALLER, text(alloc, own))),
         Task::Alarms => Next::Ask(Request::Put(KILLER, text(alloc, own))),
@@ -193,9 +221,32 @@ fn next(alloc: Global, own: Handle, task: Task) -> Next
         Task::Sends(request) => Next::Ask(Request::Put(request.source, reply(alloc, own, request))),
         Task::Looks => Next::Ask(Request::Look(Dest::Number(ECHO.0))),
         Task::Calls(to) => Next::Ask(Request::Put(to, call(alloc, own))),
+        Task::Notes(outcome) => Next::Ask(Request::Put(KILLER, note(alloc, own, outcome)?)),
         Task::Retires => Next::Ask(Request::Retire(ECHO)),
         Task::Marks => Next::Ask(Request::Mark(ECHO)),
+    })
+}
+
+fn word(outcome: Outcome) -> &'static [u8]
+    ensures { result.now ≡ word_of outcome }
+{
+    match outcome {
+        Outcome::Answered => b"answered",
+        Outcome::Failed => b"failed",
     }
+}
+
+fn note(alloc: Global, own: Handle, outcome: Outcome) -> Result<Message, NoMemory>
+    ensures { IfOk result (λ m. m ≡ note_by own outcome) }
+{
+    let mut body = Body::new(alloc);
+    body.push(Datum::Text(Bytes::from_slice(alloc, word(outcome))?))?;
+    Ok(Message {
+        source: own,
+        session: Session(0),
+        kind: Kind::Text,
+        body,
+    })
 }
 
 fn text(alloc: Global, own: Handle) -> Message

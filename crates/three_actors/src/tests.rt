@@ -69,7 +69,7 @@ fn a_call_is_answered(rt: HostRuntime) -> Result<(), Fail> {
         assert!(rt; fate(&world) == Some(Fate::OnItsWay));
         assert!(rt; acts(&mut world, &[CALLER]));
         assert!(rt; fate(&world) == Some(Fate::Answered));
-        assert!(rt; acts(&mut world, &[KILLER, KILLER, KILLER, ECHO]));
+        assert!(rt; acts(&mut world, &[CALLER, KILLER, KILLER, KILLER, KILLER, ECHO]));
         assert!(rt; fate(&world) == Some(Fate::Answered));
         assert!(rt; is_still(&world));
     }
@@ -90,6 +90,7 @@ fn a_call_fails_where_the_echo_ends_first(rt: HostRuntime) -> Result<(), Fail> {
         assert!(rt; fate(&world) == Some(Fate::OnItsWay));
         assert!(rt; acts(&mut world, &[CALLER]));
         assert!(rt; fate(&world) == Some(Fate::Failed));
+        assert!(rt; acts(&mut world, &[CALLER, KILLER]));
         assert!(rt; is_still(&world));
     }
     Ok(())
@@ -106,5 +107,48 @@ fn what_a_gone_inbox_refuses_is_no_call(rt: HostRuntime) -> Result<(), Fail> {
         assert!(rt; fate(&world).is_none());
         assert!(rt; is_still(&world));
     }
+    Ok(())
+}
+
+/// What the world writes while each of these agents acts in turn; none where one had no action.
+fn text(alloc: Global, agents: &[u32]) -> Result<Option<Bytes>, NoMemory> {
+    let Some(mut world) = opened(alloc)? else {
+        return Ok(None);
+    };
+    let mut text = Bytes::new(alloc);
+    for agent in agents {
+        match world.act(&Players, Handle(*agent)) {
+            Ok(Some(line)) => text.push_slice(line.as_slice())?,
+            Ok(None) => {}
+            Err(_) => return Ok(None),
+        }
+    }
+    Ok(Some(text))
+}
+
+fn writes(alloc: Global, agents: &[u32], want: &[u8]) -> Result<bool, NoMemory> {
+    match text(alloc, agents)? {
+        Some(text) => Ok(text.as_slice() == want),
+        None => Ok(false),
+    }
+}
+
+#[test]
+fn an_answer_is_written_down(rt: HostRuntime) -> Result<(), Fail> {
+    let agents = [
+        ECHO, ECHO, ECHO, CALLER, CALLER, CALLER, ECHO, ECHO, ECHO, CALLER, CALLER, KILLER, KILLER,
+        KILLER, KILLER, ECHO,
+    ];
+    assert!(rt; writes(rt.alloc(), &agents, b"[:00000003] \n[:00000002] answered\n")?);
+    Ok(())
+}
+
+#[test]
+fn a_failure_is_written_down(rt: HostRuntime) -> Result<(), Fail> {
+    let agents = [
+        ECHO, ECHO, ECHO, CALLER, CALLER, CALLER, KILLER, KILLER, KILLER, ECHO, ECHO, ECHO, CALLER,
+        CALLER, KILLER,
+    ];
+    assert!(rt; writes(rt.alloc(), &agents, b"[:00000003] \n[:00000002] failed\n")?);
     Ok(())
 }
