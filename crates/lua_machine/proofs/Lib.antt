@@ -3,3 +3,4 @@ pub mod RunLemmas
 pub mod CallLemmas
 pub mod LoopLemmas
 pub mod QuickLemmas
+pub mod FollowLemmas

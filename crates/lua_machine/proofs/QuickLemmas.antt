@@ -9,6 +9,7 @@ use Rattle.lua_code.specs.Valid.{IsValid}
 use Rattle.lua_steps.specs.Machine.{Code, Machine, On}
 use Rattle.lua_steps.specs.Exec.{op_at, perform_at, exec, opening}
 use Rattle.lua_steps.specs.Measure.{total, rank, MeasureFalls}
+use Rattle.lua_follow.specs.Follows.{NarrowAt}
 use Rattle.lua_machine.specs.declared.pace.Pace.{Pace}
 use Rattle.lua_machine.specs.Quick.{in_hand, Quick, Ran}
 use Rattle.lua_machine.proofs.RunLemmas.{runs_more, runs_none}
@@ -28,7 +29,11 @@ stepped code f base row after pace then_at o is quick m = ap (λ x. perform_at x
 
 pub ran_more : (code : Code) (f base : ℕ) (first row after : List Value) (start pace then_at : Pace) (o : Op) → Ran code f base first start row pace → op_at code f pace.at ≡ Some o
     → Quick o base row pace after then_at → Ran code f base first start after then_at
-ran_more code f base first row after start pace then_at o ran is quick = record { is = λ m. runs_more code (in_hand f base first start m) (in_hand f base row pace m) _ (ran.is m) (stepped code f base row after pace then_at o is quick m) }
+ran_more code f base first row after start pace then_at o ran is quick = record {
+  is = λ m.
+      let here = in_hand f base row pace m in
+      runs_more code (in_hand f base first start m) here _ (subst (λ x. NarrowAt x here) (sym is) (quick.narrow here)) (ran.is m) (stepped code f base row after pace then_at o is quick m);
+}
 
 pub ran_none : (code : Code) (f base : ℕ) (row : List Value) (pace : Pace) → Ran code f base row pace row pace
 ran_none code f base row pace = record { is = λ m. runs_none code (in_hand f base row pace m) }

@@ -1,10 +1,13 @@
 -- A run goes on by one operation.
-use Rattle.std.proofs.Common.{◌≡◌, ℕ, zero, suc, ◌<◌, ◌≤◌, refl, sym, ap, ◌∙◌, subst, arith}
+use Rattle.std.proofs.Common.{◌≡◌, ℕ, zero, suc, ◌+◌, ◌-◌, ◌<◌, ◌≤◌, ◌⊎◌, inl, inr, Bool, true, false, refl, sym, ap, ◌∙◌, subst, arith}
+use Rattle.std.specs.Prelude.{ltb}
+use Rattle.std.proofs.lemmas.Bool.{ltb-false, ltb-true}
 use Rattle.lua_code.specs.Valid.{IsValid}
 use Rattle.lua_steps.specs.Measure.{total, rank, MeasureFalls}
 use Rattle.lua_steps.specs.Machine.{Code, Machine, Went, On, Off, Paused, Stuck}
-use Rattle.lua_steps.specs.Exec.{exec}
+use Rattle.lua_steps.specs.Exec.{exec, op_at}
 use Rattle.lua_steps.specs.Run.{then_on, run}
+use Rattle.lua_follow.specs.Follows.{NarrowAt}
 use Rattle.lua_machine.specs.Runs.{Runs}
 
 on_one : (code : Code) (m : Machine) (w : Went) → exec code m ≡ w → then_on w (run zero code) ≡ w
@@ -26,11 +29,36 @@ run_more : (n : ℕ) (code : Code) (m t : Machine) (w : Went) → exec code t �
 run_more zero code m t w last e = ap (λ (x : Went). then_on x (run zero code)) (one code m t w e last) ∙ on_one code m w (one code m t w e last)
 run_more (suc n) code m t w last e = after n code t w (exec code m) (λ (u : Machine). run_more n code u t w last) e
 
-pub runs_more : (code : Code) (m t : Machine) (w : Went) → Runs code m (On t) → exec code t ≡ w → Runs code m w
-runs_more code m t w r last = record { count = suc r.count; is = run_more r.count code m t w last r.is }
+-- where a run has come after so many operations
+abbrev Narrow : Code → Machine → Type 0
+Narrow code t = NarrowAt (op_at code t.top.function t.top.at) t
+
+either : (i n : ℕ) → i < suc n → (i < n) ⊎ (i ≡ n)
+either i n lt = go (ltb i n) refl
+  where
+    go : (b : Bool) → ltb i n ≡ b → (i < n) ⊎ (i ≡ n)
+    go true e = inl (ltb-true _ _ e)
+    go false e = let le : n ≤ i = ltb-false _ _ e in inr (omega (arith, lt, le))
+
+same_place : (n : ℕ) (code : Code) (m t u : Machine) (i : ℕ) → run n code m ≡ On t → i ≡ n → run i code m ≡ On u → t ≡ u
+same_place n code m t u i e is f =
+    let g : run n code m ≡ On u = ap (λ (k : ℕ). run k code m) (sym is) ∙ f in
+    let h : On t ≡ On u = sym e ∙ g in
+    cc
+
+pub runs_more : (code : Code) (m t : Machine) (w : Went) → Narrow code t → Runs code m (On t) → exec code t ≡ w → Runs code m w
+runs_more code m t w narrow r last = record {
+  count = suc r.count;
+  is = run_more r.count code m t w last r.is;
+  narrow = λ i u lt e. (go i u e (either i r.count lt));
+}
+  where
+    go : (i : ℕ) (u : Machine) → run i code m ≡ On u → (i < r.count) ⊎ (i ≡ r.count) → Narrow code u
+    go i u e (inl lt) = r.narrow i u lt e
+    go i u e (inr is) = subst (Narrow code) (same_place r.count code m t u i r.is is e) narrow
 
 pub runs_none : (code : Code) (m : Machine) → Runs code m (On m)
-runs_none code m = record { count = 0; is = refl }
+runs_none code m = record { count = 0; is = refl; narrow = λ i u lt e. absurd (omega (arith, lt)) }
 
 le_self : (n : ℕ) → n ≤ n
 le_self n = omega arith
@@ -41,21 +69,36 @@ le_before p q = omega arith
 lt_within : {a b c : ℕ} → a < b → b ≤ c → a < c
 lt_within p q = omega arith
 
-first : (code : Code) (a u : Machine) (w : Went) → exec code a ≡ On u → Runs code u w → Runs code a w
-first code a u w e r = record { count = suc r.count; is = ap (λ (x : Went). then_on x (run r.count code)) e ∙ r.is }
+-- one run after another
+add_by : (n k : ℕ) (code : Code) (b : Machine) (x : Went) → ((u : Machine) → run n code u ≡ On b → run (n + k) code u ≡ run k code b) → then_on x (run n code) ≡ On b → then_on x (run (n + k) code) ≡ run k code b
+add_by n k code b (On u) rest e = rest u e
+add_by n k code b (Off x u) rest e = absurd (cc)
+add_by n k code b (Paused c u) rest e = absurd (cc)
+add_by n k code b Stuck rest e = absurd (cc)
 
-join_by : (n : ℕ) (code : Code) (a b : Machine) (w x : Went) → exec code a ≡ x → ((u : Machine) → run n code u ≡ On b → Runs code u w) → then_on x (run n code) ≡ On b → Runs code a w
-join_by n code a b w (On u) e rest f = first code a u w e (rest u f)
-join_by n code a b w (Off x u) e rest f = absurd (cc)
-join_by n code a b w (Paused c u) e rest f = absurd (cc)
-join_by n code a b w Stuck e rest f = absurd (cc)
-
-joined : (n : ℕ) (code : Code) (a b : Machine) (w : Went) → Runs code b w → run n code a ≡ On b → Runs code a w
-joined zero code a b w r e = let same : a ≡ b = cc in subst (λ (m : Machine). Runs code m w) (sym same) r
-joined (suc n) code a b w r e = join_by n code a b w (exec code a) refl (λ (u : Machine). joined n code u b w r) e
+run_add : (n k : ℕ) (code : Code) (a b : Machine) → run n code a ≡ On b → run (n + k) code a ≡ run k code b
+run_add zero k code a b e =
+    let same : a ≡ b = cc in
+    let none : 0 + k ≡ k = omega arith in
+    ap (λ (i : ℕ). run i code a) none ∙ ap (run k code) same
+run_add (suc n) k code a b e =
+    let more : suc n + k ≡ suc (n + k) = omega arith in
+    ap (λ (i : ℕ). run i code a) more ∙ add_by n k code b (exec code a) (λ (u : Machine). run_add n k code u b) e
 
 pub runs_join : (code : Code) (a b : Machine) (w : Went) → Runs code a (On b) → Runs code b w → Runs code a w
-runs_join code a b w r s = joined r.count code a b w s r.is
+runs_join code a b w r s = record {
+  count = r.count + s.count;
+  is = run_add r.count s.count code a b r.is ∙ s.is;
+  narrow = λ i u lt e. (go i u lt e (ltb i r.count) refl);
+}
+  where
+    go : (i : ℕ) (u : Machine) → i < r.count + s.count → run i code a ≡ On u → (c : Bool) → ltb i r.count ≡ c → Narrow code u
+    go i u lt e true is = r.narrow i u (ltb-true _ _ is) e
+    go i u lt e false is =
+        let le : r.count ≤ i = ltb-false _ _ is in
+        let k = i - r.count in
+        let sum : r.count + k ≡ i = omega (arith, le) in
+        s.narrow k u (omega (arith, lt, le)) (sym (run_add r.count k code a b r.is) ∙ ap (λ (j : ℕ). run j code a) sum ∙ e)
 
 fall_by : (n : ℕ) (code : Code) (a b : Machine) (x : Went) → MeasureFalls → IsValid code → exec code a ≡ x → ((u : Machine) → run n code u ≡ On b → rank (total code) b ≤ rank (total code) u) → then_on x (run n code) ≡ On b
     → rank (total code) b ≤ rank (total code) a

@@ -1,4 +1,5 @@
 pub mod Wants
 pub mod Views
 pub mod Runs
+pub mod Follows
 pub mod Quick

@@ -3,13 +3,16 @@ ghost use Rattle.lua_code.specs.Valid.{IsValid};
 ghost use Rattle.lua_steps.specs.Calls.{given};
 ghost use Rattle.lua_steps.specs.Exec.{fresh};
 ghost use Rattle.lua_machine.specs.Runs.{loaded, Runs, StuckIf, SpentIf};
+ghost use Rattle.lua_machine.specs.Follows.{Opens, BeginsAnew, Follows, NoRuleIf};
 ghost use Rattle.lua_machine.specs.Views.{stops};
 
 use crate::frame::{Frame, Wanted};
 use crate::state::State;
 use crate::stop::{GoError, Stop};
 use lua_code::Code;
+use lua_follow::law_code_follows;
 use lua_heap::Heap;
+use lua_meaning::law_step_determined;
 use lua_value::{Value, Values};
 use sk_types::{Bytes, NoMemory};
 use std::alloc::Global;
@@ -56,7 +59,8 @@ fn fresh(alloc: Global, called: Value) -> Result<Frame, NoMemory>
 }
 
 impl Machine {
-    /// A machine for valid code, whose last function is the chunk, with its script's name, the ticks of a message and the units of its heap.
+    /// A machine for valid code, whose last function is the chunk, with its script's name, the ticks of a message and the units of its
+    /// heap. Where the code serves a chunk, it waits for its arguments as the chunk does.
     pub fn new(
         alloc: Global,
         code: Code,
@@ -65,8 +69,10 @@ impl Machine {
         units: u64,
     ) -> Result<Machine, NoMemory>
         requires { IsValid code }
-        ensures { IfOk result (λ m. m ≡ loaded code name budget units) }
+        ensures machine { IfOk result (λ m. m ≡ loaded code name budget units) }
+        ensures opens { IfOk result (λ m. Opens name budget units m) }
     {
+        law_code_follows();
         let chunk = code.functions().len().saturating_sub(1) as u64;
         let mut heap = Heap::new(alloc, units);
         let Ok(called) = heap.closure(chunk, &[]) else {
@@ -92,7 +98,8 @@ impl Machine {
 
     /// The budget starts anew.
     pub fn begin(&mut self)
-        ensures { self.new ≡ record self.old { machine = record self.old.machine { left = self.old.budget } } }
+        ensures is { self.new ≡ record self.old { machine = record self.old.machine { left = self.old.budget } } }
+        ensures waits { BeginsAnew self.old.code self.old.budget self.old.machine self.new.machine }
     {
         self.state.left = self.budget;
     }
@@ -105,10 +112,13 @@ impl Machine {
     }
 
     /// Runs to the next stop. The values go to the thread, which waits for them: as the arguments of the chunk, or as the results of the
-    /// host's call at which it stopped. After an error the machine is spent.
+    /// host's call at which it stopped. Where it waited as a state of the source does, it stops as that state does, with the same values,
+    /// ticks and units; this says nothing where the state comes to a term without a rule. After an error the machine is spent.
     pub fn go(&mut self, values: Values) -> Result<Stop, GoError>
         ensures stop { IfOk result (λ stop. Runs self.old.code (given self.old.machine values) (stops stop self.new.machine)) }
+        ensures follows { IfOk result (λ stop. Follows self.old.code self.old.machine values stop self.new.machine) }
         ensures stuck { IfErr result (λ e. StuckIf e self.old.code (given self.old.machine values)) }
+        ensures no_rule { IfErr result (λ e. NoRuleIf e self.old.code self.old.machine values) }
         ensures was_spent { IfErr result (λ e. SpentIf e self.old.spent) }
         ensures was_sound { OnOk result (self.old.spent ≡ false) }
         ensures sound { OnOk result (self.new.spent ≡ false) }
@@ -116,6 +126,8 @@ impl Machine {
         ensures code { self.new.code ≡ self.old.code }
         ensures budget { self.new.budget ≡ self.old.budget }
     {
+        law_code_follows();
+        law_step_determined();
         if self.spent {
             return Err(GoError::Spent);
         }

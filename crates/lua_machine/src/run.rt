@@ -3,6 +3,7 @@ ghost use Rattle.lua_code.specs.Valid.{IsValid};
 ghost use Rattle.lua_steps.specs.Machine as steps;
 ghost use Rattle.lua_steps.specs.Calls.{given};
 ghost use Rattle.lua_steps.specs.Exec.{exec, op_at};
+ghost use Rattle.lua_follow.specs.Follows.{NarrowAt};
 ghost use Rattle.lua_machine.specs.Runs.{Runs, StuckIf, SpentIf};
 ghost use Rattle.lua_machine.specs.Views.{says, stops};
 
@@ -39,7 +40,8 @@ pub fn op_in(ops: &[Op], at: usize) -> Option<Op>
 impl State {
     /// The next operation.
     fn step(&mut self, code: &[Function]) -> Result<Went, NoMemory>
-        ensures { IfOk result (λ went. exec code.now self.old ≡ says went self.new) }
+        ensures went { IfOk result (λ went. exec code.now self.old ≡ says went self.new) }
+        ensures narrow { NarrowAt (op_at code.now self.old.top.function self.old.top.at) self.old }
     {
         match fetch(code, self.top.function, self.top.at) {
             Some(op) => self.perform(code, op),

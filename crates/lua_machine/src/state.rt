@@ -4,6 +4,7 @@ ghost use Rattle.lua_steps.specs.Moves.{next, jump, slot, with_slot, written, sl
 ghost use Rattle.lua_steps.specs.Exec.{chosen, unless};
 ghost use Rattle.lua_value.specs.Lists.{value_at, adjusted};
 ghost use Rattle.lua_operators.specs.Answers.{told};
+ghost use Rattle.lua_follow.specs.Follows.{Narrow};
 ghost use Rattle.lua_machine.specs.Views.{says, IsMade};
 
 use crate::frame::Frame;
@@ -57,6 +58,24 @@ pub fn value_at(values: &[Value], place: usize) -> Value
     match values.get(place) {
         Some(value) => *value,
         None => Value::Nil,
+    }
+}
+
+/// The same value, whose integer has 64 bits.
+fn narrow(value: Value) -> Value
+    ensures is { result ≡ value }
+    ensures narrow { Narrow result }
+{
+    match value {
+        Value::Nil => Value::Nil,
+        Value::Bool(b) => Value::Bool(b),
+        Value::Int(n) => Value::Int(n),
+        Value::Text(text) => Value::Text(text),
+        Value::Table(table) => Value::Table(table),
+        Value::Func(closure) => Value::Func(closure),
+        Value::Native(function) => Value::Native(function),
+        Value::Thread(thread) => Value::Thread(thread),
+        Value::Packed(body) => Value::Packed(body),
     }
 }
 
@@ -148,9 +167,10 @@ impl State {
 
     /// The slot so many after another.
     pub fn slot_after(&self, base: u16, i: u16) -> Value
-        ensures { result ≡ slot self.now (base + i) }
+        ensures is { result ≡ slot self.now (base + i) }
+        ensures narrow { Narrow result }
     {
-        self.row_at(self.top.base as usize + base as usize + i as usize)
+        narrow(self.row_at(self.top.base as usize + base as usize + i as usize))
     }
 
     pub fn set_slot_after(&mut self, base: u16, i: u16, value: Value)

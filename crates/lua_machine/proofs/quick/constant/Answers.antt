@@ -14,4 +14,5 @@ returns c =
           c.requires.op.is code x
           ∙ ap (λ (v : Value). gives c.args.to v x) (sym (c.short-value.ensures ∙ ap (λ (n : ℤ). value.Int n) (to_z-of_z w32 c.args.n c.ranges.n)))
           ∙ c.gives.ensures.is f m;
+      narrow = c.requires.op.narrow;
     }

@@ -15,4 +15,5 @@ returns-clause-ok c =
           c.requires.op.is code x
           ∙ ap (λ (a : Answer). answered a c.args.to (line code x) x) (ap₂ (binary texts c.args.o) (sym c.value_at-u.ensures) (sym c.value_at-v.ensures) ∙ c.in-Some.ensures.is texts)
           ∙ c.gives.ensures.is f m;
+      narrow = c.requires.op.narrow;
     }
