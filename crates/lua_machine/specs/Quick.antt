@@ -1,5 +1,5 @@
--- Operations that touch slots, the place and ticks alone, as a run of them has these in hand.
-use Rattle.std.specs.Prelude.{◌≡◌, ℕ, Bool, ℤ, List, [], ◌∷◌, Some}
+-- Operations that touch slots, cells, the place and ticks alone, as a run of them has these in hand. They are this project's own.
+use Rattle.std.specs.Prelude.{◌≡◌, ℕ, ◌+◌, ◌<◌, ◌≤◌, Bool, ℤ, List, [], ◌∷◌, ◌++◌, length, Some}
 use Rattle.lua_value.specs.declared.value.Value.{Value}
 use Rattle.lua_value.specs.declared.value.Value.TheVariants as value
 use Rattle.lua_model.specs.declared.operator.Binary.{Binary}
@@ -7,34 +7,112 @@ use Rattle.lua_model.specs.Answer as answer
 use Rattle.lua_model.specs.Operators.{binary}
 use Rattle.lua_model.specs.Texts.{Texts}
 use Rattle.lua_code.specs.declared.op.Op.{Op}
+use Rattle.lua_code.specs.declared.op.Op.TheVariants as op
 use Rattle.lua_steps.specs.Machine.{Code, Machine, Went, On}
-use Rattle.lua_steps.specs.Moves.{slot, written, gives, paid, answered}
+use Rattle.lua_steps.specs.Moves.{next, jump, slot, written, gives, paid, answered}
 use Rattle.lua_steps.specs.Exec.{line, chosen, unless, perform}
 use Rattle.lua_steps.specs.Loops.{counted, next_turn}
 use Rattle.lua_follow.specs.Follows.{NarrowAt}
 use Rattle.lua_machine.specs.declared.pace.Pace.{Pace}
 use Rattle.lua_machine.specs.Runs.{Runs}
 
--- the machine with this row, at this pace, in a function whose slots begin at `base`
-abbrev pub in_hand : ℕ → ℕ → List Value → Pace → Machine → Machine
-in_hand f base row pace m = record m { top = record m.top { function = f; at = pace.at; base = base }; row = row; left = pace.left }
+-- ---- what is in hand
+-- a machine that runs a frame of a function: the cells of its captured locals and of its closure, and the values that stand before its slots
+pub record Around : Type 0 where
+  pub function : ℕ
+  pub own : List ℕ
+  pub ups : List ℕ
+  pub before : List Value
+  pub machine : Machine
+
+-- the machine with these slots and all after them, these cells, at this pace
+abbrev pub in_hand : Around → List Value → List Value → Pace → Machine
+in_hand g row cells pace =
+    record g.machine {
+      top = record g.machine.top { function = g.function; at = pace.at; base = length g.before; cells = g.own; ups = g.ups };
+      row = g.before ++ row;
+      cells = cells;
+      left = pace.left;
+    }
+
+abbrev pub around : ℕ → List ℕ → List ℕ → List Value → Machine → Around
+around f own ups before m = record { function = f; own = own; ups = ups; before = before; machine = m }
 
 -- an operation, which begins no numeric `for`, leads from there to there, whatever else the machine has
-pub record Quick (o : Op) (base : ℕ) (row : List Value) (pace : Pace) (after : List Value) (then_at : Pace) : Type 0 where
-  pub is : (code : Code) (f : ℕ) (m : Machine) → perform code o (in_hand f base row pace m) ≡ On (in_hand f base after then_at m)
+pub record Quick (o : Op) (own ups : List ℕ) (row cells : List Value) (pace : Pace) (after later : List Value) (then_at : Pace) : Type 0 where
+  pub is : (code : Code) (f : ℕ) (before : List Value) (m : Machine)
+      → perform code o (in_hand (around f own ups before m) row cells pace) ≡ On (in_hand (around f own ups before m) after later then_at)
+  pub narrow : (m : Machine) → NarrowAt (Some o) m
+
+-- one that touches no cell does
+pub record OnSlots (o : Op) (row : List Value) (pace : Pace) (after : List Value) (then_at : Pace) : Type 0 where
+  pub is : (code : Code) (g : Around) (cells : List Value) → perform code o (in_hand g row cells pace) ≡ On (in_hand g after cells then_at)
   pub narrow : (m : Machine) → NarrowAt (Some o) m
 
 -- some number of operations does
-pub record Ran (code : Code) (f base : ℕ) (row : List Value) (pace : Pace) (after : List Value) (then_at : Pace) : Type 0 where
-  pub is : (m : Machine) → Runs code (in_hand f base row pace m) (On (in_hand f base after then_at m))
+pub record Ran (code : Code) (f : ℕ) (own ups : List ℕ) (row cells : List Value) (pace : Pace) (after later : List Value) (then_at : Pace) : Type 0 where
+  pub is : (before : List Value) (m : Machine) → Runs code (in_hand (around f own ups before m) row cells pace) (On (in_hand (around f own ups before m) after later then_at))
 
+-- ---- what valid code says of them
+-- the slots that a quick operation names are among so many
+abbrev pub Within : ℕ → Op → Type 0
+Within n (op.Nil to) = to < n
+Within n (op.Bool to value) = to < n
+Within n (op.Int to value) = to < n
+Within n (op.Move to from) = (to < n) × (from < n)
+Within n (op.GetCell to cell) = to < n
+Within n (op.SetCell cell from) = from < n
+Within n (op.GetUp to up) = to < n
+Within n (op.SetUp up from) = from < n
+Within n (op.Add to left right) = (to < n) × (left < n) × (right < n)
+Within n (op.Sub to left right) = (to < n) × (left < n) × (right < n)
+Within n (op.Mul to left right) = (to < n) × (left < n) × (right < n)
+Within n (op.AddInt to left value) = (to < n) × (left < n)
+Within n (op.MulInt to left value) = (to < n) × (left < n)
+Within n (op.Binary sign to left right) = (to < n) × (left < n) × (right < n)
+Within n (op.Test from to) = from < n
+Within n (op.TestNot from to) = from < n
+Within n (op.UnlessLess left right pay to) = (left < n) × (right < n)
+Within n (op.UnlessLessEqual left right pay to) = (left < n) × (right < n)
+Within n (op.UnlessEqual left right pay to) = (left < n) × (right < n)
+Within n (op.UnlessNotEqual left right pay to) = (left < n) × (right < n)
+Within n (op.UnlessLessInt left value pay to) = left < n
+Within n (op.UnlessLessEqualInt left value pay to) = left < n
+Within n (op.UnlessGreaterInt left value pay to) = left < n
+Within n (op.UnlessGreaterEqualInt left value pay to) = left < n
+Within n (op.UnlessEqualInt left value pay to) = left < n
+Within n (op.UnlessNotEqualInt left value pay to) = left < n
+Within n (op.ForLoop pay base to) = base + 3 < n
+Within n _ = Unit {0}
+
+-- the places that may follow a quick operation are among so many
+abbrev pub Near : ℕ → ℕ → Op → Type 0
+Near n at (op.Jump to) = to < n
+Near n at (op.Loop pay to) = to < n
+Near n at (op.Test from to) = (to < n) × (at + 1 < n)
+Near n at (op.TestNot from to) = (to < n) × (at + 1 < n)
+Near n at (op.UnlessLess left right pay to) = (to < n) × (at + 1 < n)
+Near n at (op.UnlessLessEqual left right pay to) = (to < n) × (at + 1 < n)
+Near n at (op.UnlessEqual left right pay to) = (to < n) × (at + 1 < n)
+Near n at (op.UnlessNotEqual left right pay to) = (to < n) × (at + 1 < n)
+Near n at (op.UnlessLessInt left value pay to) = (to < n) × (at + 1 < n)
+Near n at (op.UnlessLessEqualInt left value pay to) = (to < n) × (at + 1 < n)
+Near n at (op.UnlessGreaterInt left value pay to) = (to < n) × (at + 1 < n)
+Near n at (op.UnlessGreaterEqualInt left value pay to) = (to < n) × (at + 1 < n)
+Near n at (op.UnlessEqualInt left value pay to) = (to < n) × (at + 1 < n)
+Near n at (op.UnlessNotEqualInt left value pay to) = (to < n) × (at + 1 < n)
+Near n at (op.ForLoop pay base to) = (to < n) × (at + 1 < n)
+Near n at (op.Return from count) = Unit {0}
+Near n at op.ReturnList = Unit {0}
+Near n at _ = at + 1 < n
+
+-- ---- families of operations
 -- an operator answers a plain value
 pub record Computes (o : Binary) (u v w : Value) : Type 0 where
   pub is : (texts : Texts) → binary texts o u v ≡ answer.Plain w
 
--- ---- families of operations
-pub record IsConstant (op : Op) (to : ℕ) (n : ℤ) : Type 0 where
-  pub is : (code : Code) (m : Machine) → perform code op m ≡ gives to (value.Int n) m
+pub record IsGiven (op : Op) (to : ℕ) (v : Value) : Type 0 where
+  pub is : (code : Code) (m : Machine) → perform code op m ≡ gives to v m
   pub narrow : (m : Machine) → NarrowAt (Some op) m
 
 pub record IsOfSlots (op : Op) (o : Binary) (to p q : ℕ) : Type 0 where
@@ -53,23 +131,20 @@ pub record IsTestOfInt (op : Op) (o : Binary) (p : ℕ) (n : ℤ) (pay to : ℕ)
   pub is : (code : Code) (m : Machine) → perform code op m ≡ unless (binary m.aside.heap.texts o (slot m p) (value.Int n)) (line code m) pay to m
   pub narrow : (m : Machine) → NarrowAt (Some op) m
 
+-- ---- their parts
 -- the next operation follows, with this value in a slot
-pub record Gives (base : ℕ) (row : List Value) (pace : Pace) (to : ℕ) (v : Value) (after : List Value) (then_at : Pace) : Type 0 where
-  pub is : (f : ℕ) (m : Machine) → gives to v (in_hand f base row pace m) ≡ On (in_hand f base after then_at m)
+pub record Gives (row : List Value) (pace : Pace) (to : ℕ) (v : Value) (after : List Value) (then_at : Pace) : Type 0 where
+  pub is : (g : Around) (cells : List Value) → gives to v (in_hand g row cells pace) ≡ On (in_hand g after cells then_at)
 
 -- a choice leads from there to there
 pub record Chooses (holds : Bool) (pay to : ℕ) (pace then_at : Pace) : Type 0 where
-  pub is : (f base : ℕ) (row : List Value) (m : Machine) → chosen holds pay to (in_hand f base row pace m) ≡ On (in_hand f base row then_at m)
+  pub is : (g : Around) (row cells : List Value) → chosen holds pay to (in_hand g row cells pace) ≡ On (in_hand g row cells then_at)
 
 -- the ticks are paid, whatever follows
 pub record Pays (pay : ℕ) (pace then_at : Pace) : Type 0 where
-  pub is : (f base : ℕ) (row : List Value) (m : Machine) (go : Machine → Went) → paid pay (in_hand f base row pace m) go ≡ go (in_hand f base row then_at m)
+  pub is : (g : Around) (row cells : List Value) (go : Machine → Went) → paid pay (in_hand g row cells pace) go ≡ go (in_hand g row cells then_at)
   pub at : then_at.at ≡ pace.at
 
--- a row with the four slots of a turn
-pub record Turned (place : ℕ) (n : ℕ) (at step : Value) (row after : List Value) : Type 0 where
-  pub is : after ≡ written row place (counted n ∷ at ∷ step ∷ at ∷ [])
-
 -- the next turn of a numeric loop leads from there to there
-pub record Turns (n : ℕ) (at step : ℤ) (pay slot to base : ℕ) (row : List Value) (pace : Pace) (after : List Value) (then_at : Pace) : Type 0 where
-  pub is : (f : ℕ) (m : Machine) → next_turn n at step pay slot to (in_hand f base row pace m) ≡ On (in_hand f base after then_at m)
+pub record Turns (n : ℕ) (at step : ℤ) (pay slot to : ℕ) (row : List Value) (pace : Pace) (after : List Value) (then_at : Pace) : Type 0 where
+  pub is : (g : Around) (cells : List Value) → next_turn n at step pay slot to (in_hand g row cells pace) ≡ On (in_hand g after cells then_at)

@@ -6,24 +6,48 @@ ghost use Rattle.lua_value.specs.declared.value.Value.TheVariants as value;
 ghost use Rattle.lua_steps.specs.Machine as steps;
 ghost use Rattle.lua_steps.specs.Moves.{next, gives, slot};
 ghost use Rattle.lua_steps.specs.Exec.{cell_of, new_cell, captured, taken, closed, close_cell, captures_of, constant_value, constant_at};
+ghost use Rattle.lua_heap.specs.Contents.{cell_written};
 ghost use Rattle.lua_machine.specs.Views.{says, IsClosed};
 
 use crate::frame::Frame;
 use crate::state::State;
 use crate::stop::{Stop, Went};
 use lua_code::{Capture, Constant, Function};
-use lua_heap::HeapFault;
+use lua_heap::{Heap, HeapFault};
 use lua_value::Value;
 use sk_types::NoMemory;
 use std::alloc::Global;
 
 /// The cell with this number in a list of cells.
-fn cell_of(cells: &[u64], i: u16) -> u64
+#[inline(always)]
+pub fn cell_of(cells: &[u64], i: u16) -> u64
     ensures { result ≡ cell_of cells.now i }
 {
     match cells.get(i as usize) {
         Some(cell) => *cell,
         None => 0,
+    }
+}
+
+/// The value of a cell, and nil where the heap gave none.
+#[inline(always)]
+pub fn cell_value(heap: &Heap, cell: u64) -> Value
+    ensures { result ≡ value_at heap.now.cells cell }
+{
+    if cell < heap.cell_count() as u64 {
+        heap.cell_get(cell)
+    } else {
+        Value::Nil
+    }
+}
+
+/// Writes a cell, where the heap gave it.
+#[inline(always)]
+pub fn put_in_cell(heap: &mut Heap, cell: u64, value: Value)
+    ensures { heap.new ≡ cell_written cell value heap.old }
+{
+    if cell < heap.cell_count() as u64 {
+        heap.cell_set(cell, value);
     }
 }
 
@@ -51,19 +75,13 @@ impl State {
     fn cell(&self, cell: u64) -> Value
         ensures { result ≡ value_at self.now.cells cell }
     {
-        if cell < self.heap.cell_count() as u64 {
-            self.heap.cell_get(cell)
-        } else {
-            Value::Nil
-        }
+        cell_value(&self.heap, cell)
     }
 
     pub fn set_cell(&mut self, cell: u64, value: Value)
         ensures { self.new ≡ record self.old { cells = slice_set self.old.cells cell value } }
     {
-        if cell < self.heap.cell_count() as u64 {
-            self.heap.cell_set(cell, value);
-        }
+        put_in_cell(&mut self.heap, cell, value);
     }
 
     /// The value of one of the frame's cells.

@@ -11,6 +11,7 @@ mod pace;
 mod perform;
 mod quick;
 mod run;
+mod slots;
 mod state;
 mod stop;
 

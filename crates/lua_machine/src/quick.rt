@@ -1,145 +1,32 @@
-//! Operations that touch slots, the place and ticks alone. A run of them keeps the place and the ticks in hand, and makes no call.
+//! Operations that touch slots, cells, the place and ticks alone. A run of them keeps the place and the ticks in hand, and makes no call.
 
-ghost use Rattle.std.specs.Prelude.{◌≡◌, ◌≢◌, ◌+◌, ◌<◌, IfSome, IfNone, slice_set, Some};
+ghost use Rattle.std.specs.Prelude.{◌≡◌, ◌+◌, ◌≤◌, ◌<◌, length, IfSome, IfNone, OnSome, Some, slice_get, slice_set};
 ghost use Rattle.lua_value.specs.declared.value.Value.TheVariants as value;
 ghost use Rattle.lua_value.specs.Lists.{value_at};
 ghost use Rattle.lua_model.specs.declared.operator.Binary.TheVariants as binary_op;
 ghost use Rattle.lua_code.specs.declared.op.Op.TheVariants as op;
-ghost use Rattle.lua_machine.specs.Quick.{Quick, Computes, IsOfSlots, IsOfInt, IsTestOfSlots, IsTestOfInt, IsConstant, Gives, Chooses, Pays, Turned, Turns, Ran};
-ghost use Rattle.lua_model.specs.Integer as lua;
 ghost use Rattle.lua_code.specs.Valid.{IsValid};
+ghost use Rattle.lua_machine.specs.Quick.{Quick, OnSlots, Within, Near, IsGiven, IsOfSlots, IsOfInt, IsTestOfSlots, IsTestOfInt, Turns, Ran};
 
+use crate::cells::{cell_of, cell_value, put_in_cell};
 use crate::pace::Pace;
-use crate::run::op_in;
-use crate::state::value_at;
+use crate::slots::{after, chooses, computed, gives, long, pays, put_turn, short, slot, slot_after, tiny};
 use lua_code::{Function, Op};
+use lua_heap::Heap;
 use lua_model::Binary;
-use lua_operators::integer;
 use lua_steps::law_measure_falls;
 use lua_value::Value;
 
-/// What an operator answers of two integers, where it is quick.
+/// A value that is known goes to a slot.
 #[inline(always)]
-fn of_integers(op: Binary, a: i64, b: i64) -> Option<Value>
-    ensures { IfSome result (λ w. Computes op (value.Int a) (value.Int b) w) }
-{
-    match op {
-        Binary::Add => Some(Value::Int(integer::add(a, b))),
-        Binary::Sub => Some(Value::Int(integer::sub(a, b))),
-        Binary::Mul => Some(Value::Int(integer::mul(a, b))),
-        Binary::BitAnd => Some(Value::Int(integer::bit_and(a, b))),
-        Binary::BitOr => Some(Value::Int(integer::bit_or(a, b))),
-        Binary::BitXor => Some(Value::Int(integer::bit_xor(a, b))),
-        Binary::Equal => Some(Value::Bool(a == b)),
-        Binary::NotEqual => Some(Value::Bool(a != b)),
-        Binary::Less => Some(Value::Bool(a < b)),
-        Binary::LessEqual => Some(Value::Bool(a <= b)),
-        Binary::Greater => Some(Value::Bool(b < a)),
-        Binary::GreaterEqual => Some(Value::Bool(b <= a)),
-        _ => None,
-    }
-}
-
-#[inline(always)]
-fn computed(op: Binary, left: Value, right: Value) -> Option<Value>
-    ensures { IfSome result (λ w. Computes op left right w) }
-{
-    match (left, right) {
-        (Value::Int(a), Value::Int(b)) => of_integers(op, a, b),
-        _ => None,
-    }
-}
-
-#[inline(always)]
-fn put(row: &mut [Value], place: usize, value: Value)
-    ensures { row.new ≡ slice_set row.old place value }
-{
-    if place < row.len() {
-        row[place] = value;
-    }
-}
-
-/// The value goes to a slot, and the next operation follows.
-#[inline(always)]
-fn gives(row: &mut [Value], base: usize, to: u16, value: Value, pace: Pace) -> Pace
-    requires base { base < 10000000000 }
+fn given(_op: Op, row: &mut [Value], to: u16, value: Value, pace: Pace) -> Pace
+    requires slot { to < length row.old }
     requires place { pace.at < usize.MAX }
-    ensures { Gives base row.old pace to value row.new result }
+    requires op { IsGiven _op to value }
+    ensures ok { OnSlots _op row.old pace row.new result }
+    ensures place { result.at ≡ pace.at + 1 }
 {
-    put(row, base + to as usize, value);
-    Pace {
-        at: pace.at + 1,
-        left: pace.left,
-    }
-}
-
-/// The ticks are paid, if they do not pass the budget.
-#[inline(always)]
-fn pays(pay: u8, pace: Pace) -> Option<Pace>
-    ensures { IfSome result (λ p. Pays pay pace p) }
-{
-    let ticks = u64::from(pay);
-    if pace.left < ticks {
-        return None;
-    }
-    Some(Pace {
-        at: pace.at,
-        left: pace.left - ticks,
-    })
-}
-
-#[inline(always)]
-fn chooses(holds: bool, pay: u8, to: u32, pace: Pace) -> Option<Pace>
-    requires { pace.at < usize.MAX }
-    ensures { IfSome result (λ p. Chooses holds pay to pace p) }
-{
-    if holds {
-        let Some(paid) = pays(pay, pace) else {
-            return None;
-        };
-        return Some(Pace {
-            at: paid.at + 1,
-            left: paid.left,
-        });
-    }
-    Some(Pace {
-        at: to as usize,
-        left: pace.left,
-    })
-}
-
-#[inline(always)]
-fn short(n: i32) -> Value
-    ensures { result ≡ value.Int n }
-{
-    Value::Int(i64::from(n))
-}
-
-#[inline(always)]
-fn long(n: i64) -> Value
-    ensures { result ≡ value.Int n }
-{
-    Value::Int(n)
-}
-
-/// The value of the next turn, which wraps round.
-#[inline(always)]
-fn after(at: i64, step: i64) -> Value
-    ensures { result ≡ value.Int (lua.add at step) }
-{
-    Value::Int(integer::add(at, step))
-}
-
-/// An integer goes to a slot.
-#[inline(always)]
-fn constant(_op: Op, row: &mut [Value], base: usize, to: u16, n: i32, pace: Pace) -> Pace
-    requires base { base < 10000000000 }
-    requires place { pace.at < usize.MAX }
-    requires op { IsConstant _op to n }
-    ensures { Quick _op base row.old pace row.new result }
-{
-    let value = short(n);
-    gives(row, base, to, value, pace)
+    gives(row, to, value, pace)
 }
 
 /// An operator on two slots.
@@ -148,24 +35,26 @@ fn of_slots(
     _op: Op,
     o: Binary,
     row: &mut [Value],
-    base: usize,
     to: u16,
     left: u16,
     right: u16,
     pace: Pace,
 ) -> Option<Pace>
-    requires base { base < 10000000000 }
+    requires to { to < length row.old }
+    requires left { left < length row.old }
+    requires right { right < length row.old }
     requires place { pace.at < usize.MAX }
     requires op { IsOfSlots _op o to left right }
-    ensures ok { IfSome result (λ p. Quick _op base row.old pace row.new p) }
+    ensures ok { IfSome result (λ p. OnSlots _op row.old pace row.new p) }
+    ensures place { IfSome result (λ p. p.at ≡ pace.at + 1) }
     ensures none { IfNone result (row.new ≡ row.old) }
 {
-    let u = value_at(row, base + left as usize);
-    let v = value_at(row, base + right as usize);
+    let u = slot(row, left);
+    let v = slot(row, right);
     let Some(value) = computed(o, u, v) else {
         return None;
     };
-    Some(gives(row, base, to, value, pace))
+    Some(gives(row, to, value, pace))
 }
 
 /// An operator on a slot and an integer.
@@ -174,24 +63,25 @@ fn of_int(
     _op: Op,
     o: Binary,
     row: &mut [Value],
-    base: usize,
     to: u16,
     left: u16,
     right: i32,
     pace: Pace,
 ) -> Option<Pace>
-    requires base { base < 10000000000 }
+    requires to { to < length row.old }
+    requires left { left < length row.old }
     requires place { pace.at < usize.MAX }
     requires op { IsOfInt _op o to left right }
-    ensures ok { IfSome result (λ p. Quick _op base row.old pace row.new p) }
+    ensures ok { IfSome result (λ p. OnSlots _op row.old pace row.new p) }
+    ensures place { IfSome result (λ p. p.at ≡ pace.at + 1) }
     ensures none { IfNone result (row.new ≡ row.old) }
 {
-    let u = value_at(row, base + left as usize);
+    let u = slot(row, left);
     let v = short(right);
     let Some(value) = computed(o, u, v) else {
         return None;
     };
-    Some(gives(row, base, to, value, pace))
+    Some(gives(row, to, value, pace))
 }
 
 /// A comparison of two slots.
@@ -200,24 +90,27 @@ fn test_of_slots(
     _op: Op,
     o: Binary,
     row: &[Value],
-    base: usize,
     left: u8,
     right: u8,
     pay: u8,
     to: u32,
     pace: Pace,
+    _count: usize,
 ) -> Option<Pace>
-    requires base { base < 10000000000 }
-    requires place { pace.at < usize.MAX }
+    requires left { left < length row.now }
+    requires right { right < length row.now }
+    requires next { pace.at + 1 < _count }
+    requires jump { to < _count }
     requires op { IsTestOfSlots _op o left right pay to }
-    ensures { IfSome result (λ p. Quick _op base row.now pace row.now p) }
+    ensures ok { IfSome result (λ p. OnSlots _op row.now pace row.now p) }
+    ensures place { IfSome result (λ p. p.at < _count) }
 {
-    let u = value_at(row, base + left as usize);
-    let v = value_at(row, base + right as usize);
+    let u = slot(row, u16::from(left));
+    let v = slot(row, u16::from(right));
     let Some(value) = computed(o, u, v) else {
         return None;
     };
-    chooses(value.is_true(), pay, to, pace)
+    chooses(value.is_true(), pay, to, pace, _count)
 }
 
 /// A comparison of a slot with an integer.
@@ -226,92 +119,73 @@ fn test_of_int(
     _op: Op,
     o: Binary,
     row: &[Value],
-    base: usize,
-    left: u8,
+    left: u16,
     right: i8,
     pay: u8,
     to: u32,
     pace: Pace,
+    _count: usize,
 ) -> Option<Pace>
-    requires base { base < 10000000000 }
-    requires place { pace.at < usize.MAX }
+    requires left { left < length row.now }
+    requires next { pace.at + 1 < _count }
+    requires jump { to < _count }
     requires op { IsTestOfInt _op o left right pay to }
-    ensures { IfSome result (λ p. Quick _op base row.now pace row.now p) }
+    ensures ok { IfSome result (λ p. OnSlots _op row.now pace row.now p) }
+    ensures place { IfSome result (λ p. p.at < _count) }
 {
-    let u = value_at(row, base + left as usize);
-    let v = short(i32::from(right));
+    let u = slot(row, left);
+    let v = tiny(right);
     let Some(value) = computed(o, u, v) else {
         return None;
     };
-    chooses(value.is_true(), pay, to, pace)
-}
-
-/// The slots of a turn.
-#[inline(always)]
-fn set_turn(row: &mut [Value], place: usize, left: u64, value: Value, step: Value)
-    requires { place < 20000000000 }
-    ensures { Turned place left value step row.old row.new }
-{
-    put(row, place, Value::Int(left.cast_signed()));
-    let second = place + 1;
-    put(row, second, value);
-    let third = second + 1;
-    put(row, third, step);
-    let last = third + 1;
-    put(row, last, value);
+    chooses(value.is_true(), pay, to, pace, _count)
 }
 
 /// The next turn of a numeric loop, or its end.
 #[inline(always)]
 fn next_turn(
     row: &mut [Value],
-    base: usize,
     pay: u8,
-    slot: u16,
+    base: u16,
     to: u32,
     pace: Pace,
+    _count: usize,
 ) -> Option<Pace>
-    requires base { base < 10000000000 }
-    requires place { pace.at < usize.MAX }
-    ensures ok { IfSome result (λ p. Quick (op.ForLoop pay slot to) base row.old pace row.new p) }
+    requires slots { base + 3 < length row.old }
+    requires next { pace.at + 1 < _count }
+    requires jump { to < _count }
+    ensures ok { IfSome result (λ p. OnSlots (op.ForLoop pay base to) row.old pace row.new p) }
+    ensures place { IfSome result (λ p. p.at < _count) }
     ensures none { IfNone result (row.new ≡ row.old) }
 {
-    let first = slot as usize;
     let (Value::Int(left), Value::Int(value), Value::Int(step)) = (
-        value_at(row, base + first),
-        value_at(row, base + (first + 1)),
-        value_at(row, base + (first + 2)),
+        slot(row, base),
+        slot_after(row, base, 1),
+        slot_after(row, base, 2),
     ) else {
         return None;
     };
-    turn_by(
-        row,
-        base,
-        pay,
-        slot,
-        to,
-        pace,
-        left.cast_unsigned(),
-        value,
-        step,
-    )
+    let turns = left.cast_unsigned();
+    turn_by(row, pay, base, to, pace, _count, turns, value, step)
 }
 
 #[inline(always)]
 fn turn_by(
     row: &mut [Value],
-    base: usize,
     pay: u8,
-    slot: u16,
+    base: u16,
     to: u32,
     pace: Pace,
+    _count: usize,
     left: u64,
     value: i64,
     step: i64,
 ) -> Option<Pace>
-    requires base { base < 10000000000 }
-    requires place { pace.at < usize.MAX }
-    ensures ok { IfSome result (λ p. Turns left value step pay slot to base row.old pace row.new p) }
+    requires slots { base + 3 < length row.old }
+    requires next { pace.at + 1 < _count }
+    requires jump { to < _count }
+    ensures ok { IfSome result (λ p. Turns left value step pay base to row.old pace row.new p) }
+    ensures place { IfSome result (λ p. p.at < _count) }
     ensures none { IfNone result (row.new ≡ row.old) }
 {
     if left == 0 {
@@ -325,32 +199,129 @@ fn turn_by(
     };
     let next = after(value, step);
     let by = long(step);
-    set_turn(row, base + slot as usize, left - 1, next, by);
+    put_turn(row, base, left - 1, next, by);
     Some(Pace {
         at: to as usize,
         left: paid.left,
     })
 }
 
-/// One operation, if it is quick and comes to no stop.
+/// A slot whose truth is asked.
 #[inline(always)]
-fn quick(op: Op, row: &mut [Value], base: usize, pace: Pace) -> Option<Pace>
-    requires base { base < 10000000000 }
+fn tests(_op: Op, row: &[Value], from: u16, to: u32, pace: Pace, _count: usize) -> Option<Pace>
+    requires from { from < length row.now }
+    requires next { pace.at + 1 < _count }
+    requires jump { to < _count }
+    requires op { _op ≡ op.Test from to }
+    ensures ok { IfSome result (λ p. OnSlots _op row.now pace row.now p) }
+    ensures place { IfSome result (λ p. p.at < _count) }
+{
+    let value = slot(row, from);
+    chooses(value.is_true(), 0, to, pace, _count)
+}
+
+/// The same, for a jump where it is true.
+#[inline(always)]
+fn tests_not(_op: Op, row: &[Value], from: u16, to: u32, pace: Pace, _count: usize) -> Pace
+    requires from { from < length row.now }
+    requires next { pace.at + 1 < _count }
+    requires jump { to < _count }
+    requires op { _op ≡ op.TestNot from to }
+    ensures ok { OnSlots _op row.now pace row.now result }
+    ensures place { result.at < _count }
+{
+    let value = slot(row, from);
+    if value.is_true() {
+        return Pace {
+            at: to as usize,
+            left: pace.left,
+        };
+    }
+    Pace {
+        at: pace.at + 1,
+        left: pace.left,
+    }
+}
+
+/// The ticks are paid, and a jump follows.
+#[inline(always)]
+fn pays_and_jumps(_op: Op, _row: &[Value], pay: u8, to: u32, pace: Pace) -> Option<Pace>
+    requires op { _op ≡ op.Loop pay to }
+    ensures ok { IfSome result (λ p. OnSlots _op _row.now pace _row.now p) }
+    ensures place { IfSome result (λ p. p.at ≡ to) }
+{
+    let Some(paid) = pays(pay, pace) else {
+        return None;
+    };
+    Some(Pace {
+        at: to as usize,
+        left: paid.left,
+    })
+}
+
+/// The ticks are paid, and the next operation follows.
+#[inline(always)]
+fn pays_on(_op: Op, _row: &[Value], pay: u8, pace: Pace) -> Option<Pace>
     requires place { pace.at < usize.MAX }
-    ensures ok { IfSome result (λ p. Quick op base row.old pace row.new p) }
+    requires op { _op ≡ op.Tick pay }
+    ensures ok { IfSome result (λ p. OnSlots _op _row.now pace _row.now p) }
+    ensures place { IfSome result (λ p. p.at ≡ pace.at + 1) }
+{
+    let Some(paid) = pays(pay, pace) else {
+        return None;
+    };
+    Some(Pace {
+        at: paid.at + 1,
+        left: paid.left,
+    })
+}
+
+/// A slot's value goes to another.
+#[inline(always)]
+fn moves(_op: Op, row: &mut [Value], to: u16, from: u16, pace: Pace) -> Pace
+    requires to { to < length row.old }
+    requires from { from < length row.old }
+    requires place { pace.at < usize.MAX }
+    requires op { _op ≡ op.Move to from }
+    ensures ok { OnSlots _op row.old pace row.new result }
+    ensures place { result.at ≡ pace.at + 1 }
+{
+    let value = slot(row, from);
+    gives(row, to, value, pace)
+}
+
+/// An integer of the code goes to a slot.
+#[inline(always)]
+fn constant(_op: Op, row: &mut [Value], to: u16, n: i32, pace: Pace) -> Pace
+    requires to { to < length row.old }
+    requires place { pace.at < usize.MAX }
+    requires op { IsGiven _op to (value.Int n) }
+    ensures ok { OnSlots _op row.old pace row.new result }
+    ensures place { result.at ≡ pace.at + 1 }
+{
+    let value = short(n);
+    given(_op, row, to, value, pace)
+}
+
+/// An operation that touches slots alone, if it is quick and comes to no stop. There are so many operations.
+#[inline(always)]
+fn on_slots(op: Op, row: &mut [Value], pace: Pace, _count: usize) -> Option<Pace>
+    requires within { Within (length row.old) op }
+    requires near { Near _count pace.at op }
+    requires place { pace.at < _count }
+    ensures ok { IfSome result (λ p. OnSlots op row.old pace row.new p) }
+    ensures place { IfSome result (λ p. p.at < _count) }
     ensures none { IfNone result (row.new ≡ row.old) }
 {
     match op {
-        Op::Int { to, value } => Some(constant(op, row, base, to, value, pace)),
-        Op::Move { to, from } => {
-            let value = value_at(row, base + from as usize);
-            Some(gives(row, base, to, value, pace))
-        }
+        Op::Nil { to } => Some(given(op, row, to, Value::Nil, pace)),
+        Op::Bool { to, value } => Some(given(op, row, to, Value::Bool(value), pace)),
+        Op::Int { to, value } => Some(constant(op, row, to, value, pace)),
+        Op::Move { to, from } => Some(moves(op, row, to, from, pace)),
         Op::Add { to, left, right } => of_slots(
             op,
             Binary::Add,
             row,
-            base,
             u16::from(to),
             u16::from(left),
             u16::from(right),
@@ -360,7 +331,6 @@ fn quick(op: Op, row: &mut [Value], base: usize, pace: Pace) -> Option<Pace>
             op,
             Binary::Sub,
             row,
-            base,
             u16::from(to),
             u16::from(left),
             u16::from(right),
@@ -370,7 +340,6 @@ fn quick(op: Op, row: &mut [Value], base: usize, pace: Pace) -> Option<Pace>
             op,
             Binary::Mul,
             row,
-            base,
             u16::from(to),
             u16::from(left),
             u16::from(right),
@@ -380,7 +349,6 @@ fn quick(op: Op, row: &mut [Value], base: usize, pace: Pace) -> Option<Pace>
             op,
             Binary::Add,
             row,
-            base,
             u16::from(to),
             u16::from(left),
             value,
@@ -390,7 +358,6 @@ fn quick(op: Op, row: &mut [Value], base: usize, pace: Pace) -> Option<Pace>
             op,
             Binary::Mul,
             row,
-            base,
             u16::from(to),
             u16::from(left),
             value,
@@ -401,53 +368,87 @@ fn quick(op: Op, row: &mut [Value], base: usize, pace: Pace) -> Option<Pace>
             to,
             left,
             right,
-        } => of_slots(op, o, row, base, to, left, right, pace),
+        } => of_slots(op, o, row, to, left, right, pace),
+        Op::Tick { pay } => pays_on(op, row, pay, pace),
         Op::Jump { at } => Some(Pace {
             at: at as usize,
             left: pace.left,
         }),
+        Op::Loop { pay, at } => pays_and_jumps(op, row, pay, at, pace),
+        Op::Test { from, at } => tests(op, row, from, at, pace, _count),
+        Op::TestNot { from, at } => Some(tests_not(op, row, from, at, pace, _count)),
         Op::UnlessLess {
             left,
             right,
             pay,
             at,
-        } => test_of_slots(op, Binary::Less, row, base, left, right, pay, at, pace),
+        } => test_of_slots(op, Binary::Less, row, left, right, pay, at, pace, _count),
         Op::UnlessLessEqual {
             left,
             right,
             pay,
             at,
-        } => test_of_slots(op, Binary::LessEqual, row, base, left, right, pay, at, pace),
+        } => test_of_slots(op, Binary::LessEqual, row, left, right, pay, at, pace, _count),
         Op::UnlessEqual {
             left,
             right,
             pay,
             at,
-        } => test_of_slots(op, Binary::Equal, row, base, left, right, pay, at, pace),
+        } => test_of_slots(op, Binary::Equal, row, left, right, pay, at, pace, _count),
         Op::UnlessNotEqual {
             left,
             right,
             pay,
             at,
-        } => test_of_slots(op, Binary::NotEqual, row, base, left, right, pay, at, pace),
+        } => test_of_slots(op, Binary::NotEqual, row, left, right, pay, at, pace, _count),
         Op::UnlessLessInt {
             left,
             value,
             pay,
             at,
-        } => test_of_int(op, Binary::Less, row, base, left, value, pay, at, pace),
+        } => test_of_int(
+            op,
+            Binary::Less,
+            row,
+            u16::from(left),
+            value,
+            pay,
+            at,
+            pace,
+            _count,
+        ),
         Op::UnlessLessEqualInt {
             left,
             value,
             pay,
             at,
-        } => test_of_int(op, Binary::LessEqual, row, base, left, value, pay, at, pace),
+        } => test_of_int(
+            op,
+            Binary::LessEqual,
+            row,
+            u16::from(left),
+            value,
+            pay,
+            at,
+            pace,
+            _count,
+        ),
         Op::UnlessGreaterInt {
             left,
             value,
             pay,
             at,
-        } => test_of_int(op, Binary::Greater, row, base, left, value, pay, at, pace),
+        } => test_of_int(
+            op,
+            Binary::Greater,
+            row,
+            u16::from(left),
+            value,
+            pay,
+            at,
+            pace,
+            _count,
+        ),
         Op::UnlessGreaterEqualInt {
             left,
             value,
@@ -457,51 +458,130 @@ fn quick(op: Op, row: &mut [Value], base: usize, pace: Pace) -> Option<Pace>
             op,
             Binary::GreaterEqual,
             row,
-            base,
-            left,
+            u16::from(left),
             value,
             pay,
             at,
             pace,
+            _count,
         ),
         Op::UnlessEqualInt {
             left,
             value,
             pay,
             at,
-        } => test_of_int(op, Binary::Equal, row, base, left, value, pay, at, pace),
+        } => test_of_int(
+            op,
+            Binary::Equal,
+            row,
+            u16::from(left),
+            value,
+            pay,
+            at,
+            pace,
+            _count,
+        ),
         Op::UnlessNotEqualInt {
             left,
             value,
             pay,
             at,
-        } => test_of_int(op, Binary::NotEqual, row, base, left, value, pay, at, pace),
-        Op::ForLoop {
+        } => test_of_int(
+            op,
+            Binary::NotEqual,
+            row,
+            u16::from(left),
+            value,
             pay,
-            base: slot,
             at,
-        } => next_turn(row, base, pay, slot, at, pace),
+            pace,
+            _count,
+        ),
+        Op::ForLoop { pay, base, at } => next_turn(row, pay, base, at, pace, _count),
         _ => None,
     }
 }
 
-/// Quick operations, up to one that is not or that comes to a stop.
-pub fn block(code: &[Function], function: u64, row: &mut [Value], base: usize, start: Pace) -> Pace
-    requires base { base < 10000000000 }
+/// One operation, if it is quick and comes to no stop. Of the heap it touches the cells alone.
+#[inline(always)]
+fn quick(
+    op: Op,
+    row: &mut [Value],
+    heap: &mut Heap,
+    own: &[u64],
+    ups: &[u64],
+    pace: Pace,
+    _count: usize,
+) -> Option<Pace>
+    requires within { Within (length row.old) op }
+    requires near { Near _count pace.at op }
+    requires place { pace.at < _count }
+    ensures ok { IfSome result (λ p. Quick op own.now ups.now row.old heap.old.cells pace row.new heap.new.cells p) }
+    ensures place { IfSome result (λ p. p.at < _count) }
+    ensures none { IfNone result ((row.new ≡ row.old) × (heap.new ≡ heap.old)) }
+    ensures heap { heap.new ≡ record heap.old { cells = heap.new.cells } }
+{
+    match op {
+        Op::GetCell { to, cell } => {
+            let value = cell_value(heap, cell_of(own, cell));
+            Some(gives(row, to, value, pace))
+        }
+        Op::GetUp { to, up } => {
+            let value = cell_value(heap, cell_of(ups, up));
+            Some(gives(row, to, value, pace))
+        }
+        Op::SetCell { cell, from } => {
+            put_in_cell(heap, cell_of(own, cell), slot(row, from));
+            Some(Pace {
+                at: pace.at + 1,
+                left: pace.left,
+            })
+        }
+        Op::SetUp { up, from } => {
+            put_in_cell(heap, cell_of(ups, up), slot(row, from));
+            Some(Pace {
+                at: pace.at + 1,
+                left: pace.left,
+            })
+        }
+        _ => on_slots(op, row, pace, _count),
+    }
+}
+
+/// The operation at a place that is there.
+#[inline(always)]
+fn fetch(ops: &[Op], at: usize) -> Op
+    requires { at < length ops.now }
+    ensures { slice_get ops.now at ≡ Some result }
+{
+    ops[at]
+}
+
+/// Quick operations of a function, up to one that is not or that comes to a stop. The row begins with the frame's slots.
+#[inline(always)]
+pub fn block(
+    code: &[Function],
+    _function: u64,
+    routine: &Function,
+    row: &mut [Value],
+    heap: &mut Heap,
+    own: &[u64],
+    ups: &[u64],
+    start: Pace,
+) -> Pace
     requires valid { IsValid code.now }
-    ensures { Ran code.now function base row.old start row.new result }
+    requires routine { slice_get code.now _function ≡ Some routine.now }
+    requires slots { routine.now.shape.slots ≤ length row.old }
+    requires place { start.at < length routine.now.ops }
+    ensures ran { Ran code.now _function own.now ups.now row.old heap.old.cells start row.new heap.new.cells result }
+    ensures heap { heap.new ≡ record heap.old { cells = heap.new.cells } }
 {
     law_measure_falls();
-    let Some(routine) = code.get(function as usize) else {
-        return start;
-    };
     let ops = routine.ops();
     let mut pace = start;
     'quick: loop {
-        let Some(op) = op_in(ops, pace.at) else {
-            return pace;
-        };
-        let Some(next) = quick(op, row, base, pace) else {
+        let op = fetch(ops, pace.at);
+        let Some(next) = quick(op, row, heap, own, ups, pace, ops.len()) else {
             return pace;
         };
         pace = next;

@@ -54,12 +54,24 @@ impl State {
         requires { IsValid code.now }
         ensures { Runs code.now self.old (steps.On self.new) }
     {
-        let function = self.function();
-        let base = self.base();
+        let function = self.top.function;
+        let Some(routine) = code.get(function as usize) else {
+            return;
+        };
+        let base = self.top.base as usize;
         let start = self.pace();
-        let mut row = self.take_row();
-        let pace = block(code, function, row.as_mut_slice(), base, start);
-        self.settle(row, pace);
+        if start.at >= routine.ops().len() || self.row.len() < base {
+            return;
+        }
+        let slots = &mut self.row[base..];
+        if slots.len() < routine.shape().slots as usize {
+            return;
+        }
+        let own = self.top.cells.as_slice();
+        let ups = self.top.ups.as_slice();
+        let pace = block(code, function, routine, slots, &mut self.heap, own, ups, start);
+        self.top.at = pace.at;
+        self.left = pace.left;
     }
 
     /// Runs to the next stop. The values go to the frame that waits for them.

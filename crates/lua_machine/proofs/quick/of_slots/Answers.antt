@@ -4,16 +4,19 @@ use Rattle.lua_model.specs.Operators.{binary}
 use Rattle.lua_steps.specs.Moves.{answered}
 use Rattle.lua_steps.specs.Exec.{line}
 use Rattle.lua_machine.specs.Quick.{in_hand}
+use Rattle.lua_machine.proofs.QuickLemmas.{value_after}
 use Rattle.lua_machine.proofs.quick.of_slots.Goals as goal
 
 pub returns-clause-ok : goal.returns-clause-ok
 returns-clause-ok c =
+    let row = c.args.row.now in
     record {
-      is = λ code f m.
-          let x = in_hand f c.args.base c.args.row.now c.args.pace m in
-          let texts = m.aside.heap.texts in
+      is = λ code g cells.
+          let x = in_hand g row cells c.args.pace in
+          let texts = g.machine.aside.heap.texts in
           c.requires.op.is code x
-          ∙ ap (λ (a : Answer). answered a c.args.to (line code x) x) (ap₂ (binary texts c.args.o) (sym c.value_at-u.ensures) (sym c.value_at-v.ensures) ∙ c.in-Some.ensures.is texts)
-          ∙ c.gives.ensures.is f m;
+          ∙ ap (λ (a : Answer). answered a c.args.to (line code x) x)
+          (ap₂ (binary texts c.args.o) (value_after g.before row c.args.left ∙ sym c.slot-u.ensures) (value_after g.before row c.args.right ∙ sym c.slot-v.ensures) ∙ c.in-Some.ensures.is texts)
+          ∙ c.gives.ensures.gives.is g cells;
       narrow = c.requires.op.narrow;
     }

@@ -1,17 +1,74 @@
-use Rattle.std.proofs.Common.{Some, sym, ap, ◌∙◌, subst}
+use Rattle.std.proofs.Common.{ℕ, Some, refl, sym, ap, ap₂, ◌∙◌, subst}
+use Rattle.std.specs.Prelude.{slice_set, List}
 use Rattle.lua_value.specs.declared.value.Value.{Value}
+use Rattle.lua_value.specs.Lists.{value_at}
+use Rattle.lua_heap.specs.Contents.{Contents}
 use Rattle.lua_code.specs.declared.op.Op.{Op}
-use Rattle.lua_steps.specs.Moves.{gives}
+use Rattle.lua_steps.specs.Moves.{next, gives}
 use Rattle.lua_steps.specs.Exec.{perform}
 use Rattle.lua_follow.specs.Follows.{NarrowAt}
-use Rattle.lua_machine.specs.Quick.{in_hand}
+use Rattle.lua_machine.specs.Quick.{around, in_hand}
+use Rattle.lua_machine.proofs.QuickLemmas.{value_after, some_map, none_map}
 use Rattle.lua_machine.proofs.quick.quick.Goals as goal
 
-pub returns-in-Move-clause-ok : goal.returns-in-Move-clause-ok
-returns-in-Move-clause-ok c =
+pub returns-in-GetCell-clause-ok : goal.returns-in-GetCell-clause-ok
+returns-in-GetCell-clause-ok c =
+    let cells = c.args.heap.now.cells in
     record {
-      is = λ code f m.
-          let x = in_hand f c.args.base c.args.row.now c.args.pace m in
-          ap (λ (o : Op). perform code o x) c.in-Move.is ∙ ap (λ (v : Value). gives c.in-Move.to v x) (sym c.value_at-value.ensures) ∙ c.gives.ensures.is f m;
-      narrow = λ m. subst (λ (o : Op). NarrowAt (Some o) m) (sym c.in-Move.is) tt;
+      is = λ code f before m.
+          let g = around f c.args.own.now c.args.ups.now before m in
+          let x = in_hand g c.args.row.now cells c.args.pace in
+          ap (λ (o : Op). perform code o x) c.in-GetCell.is
+          ∙ ap (λ (v : Value). gives c.in-GetCell.to v x) (ap (λ (k : ℕ). value_at cells k) (sym c.cell_of.ensures) ∙ sym c.cell_value-value.ensures)
+          ∙ c.gives.ensures.gives.is g cells;
+      narrow = λ m. subst (λ (o : Op). NarrowAt (Some o) m) (sym c.in-GetCell.is) tt;
+    }
+
+pub returns-in-GetUp-clause-ok : goal.returns-in-GetUp-clause-ok
+returns-in-GetUp-clause-ok c =
+    let cells = c.args.heap.now.cells in
+    record {
+      is = λ code f before m.
+          let g = around f c.args.own.now c.args.ups.now before m in
+          let x = in_hand g c.args.row.now cells c.args.pace in
+          ap (λ (o : Op). perform code o x) c.in-GetUp.is
+          ∙ ap (λ (v : Value). gives c.in-GetUp.to v x) (ap (λ (k : ℕ). value_at cells k) (sym c.cell_of-in-GetUp.ensures) ∙ sym c.cell_value-value-in-GetUp.ensures)
+          ∙ c.gives-in-GetUp.ensures.gives.is g cells;
+      narrow = λ m. subst (λ (o : Op). NarrowAt (Some o) m) (sym c.in-GetUp.is) tt;
+    }
+
+pub returns-in-SetCell-clause-ok : goal.returns-in-SetCell-clause-ok
+returns-in-SetCell-clause-ok c =
+    let row = c.args.row.now in
+    let cells = c.args.heap.now.cells in
+    record {
+      is = λ code f before m.
+          let x = in_hand (around f c.args.own.now c.args.ups.now before m) row cells c.args.pace in
+          ap (λ (o : Op). perform code o x) c.in-SetCell.is
+          ∙ ap₂ (λ (k : ℕ) (v : Value). next (record x { cells = slice_set cells k v })) (sym c.cell_of-in-SetCell.ensures) (value_after before row c.in-SetCell.from ∙ sym c.slot.ensures)
+          ∙ ap (λ (cs : List Value). next (record x { cells = cs })) (sym (ap (λ (h : Contents). h.cells) c.put_in_cell.ensures));
+      narrow = λ m. subst (λ (o : Op). NarrowAt (Some o) m) (sym c.in-SetCell.is) tt;
+    }
+
+pub returns-in-SetUp-clause-ok : goal.returns-in-SetUp-clause-ok
+returns-in-SetUp-clause-ok c =
+    let row = c.args.row.now in
+    let cells = c.args.heap.now.cells in
+    record {
+      is = λ code f before m.
+          let x = in_hand (around f c.args.own.now c.args.ups.now before m) row cells c.args.pace in
+          ap (λ (o : Op). perform code o x) c.in-SetUp.is
+          ∙ ap₂ (λ (k : ℕ) (v : Value). next (record x { cells = slice_set cells k v })) (sym c.cell_of-in-SetUp.ensures) (value_after before row c.in-SetUp.from ∙ sym c.slot-in-SetUp.ensures)
+          ∙ ap (λ (cs : List Value). next (record x { cells = cs })) (sym (ap (λ (h : Contents). h.cells) c.put_in_cell-in-SetUp.ensures));
+      narrow = λ m. subst (λ (o : Op). NarrowAt (Some o) m) (sym c.in-SetUp.is) tt;
+    }
+
+pub returns-in_default : goal.returns-in_default
+returns-in_default c =
+    let cells = c.args.heap.now.cells in
+    record {
+      ok = some_map c.on_slots.result _ _ (λ p h. record { is = λ code f before m. h.is code (around f c.args.own.now c.args.ups.now before m) cells; narrow = h.narrow }) c.on_slots.ensures.ok;
+      place = c.on_slots.ensures.place;
+      none = none_map c.on_slots.result _ _ (λ same. (same , refl)) c.on_slots.ensures.none;
+      heap = refl;
     }

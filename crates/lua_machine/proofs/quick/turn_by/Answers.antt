@@ -1,4 +1,4 @@
-use Rattle.std.proofs.Common.{ℤ, ◌+◌, ◌-◌, ◌<◌, List, [], ◌∷◌, sym, ap, ap₂, ◌∙◌, arith, w64}
+use Rattle.std.proofs.Common.{ℤ, ◌+◌, ◌-◌, ◌<◌, List, [], ◌∷◌, ◌++◌, sym, ap, ap₂, ◌∙◌, arith, w64}
 use Rattle.std.proofs.lemmas.Int.{to_z-of_z}
 use Rattle.lua_value.specs.declared.value.Value.{Value}
 use Rattle.lua_value.specs.declared.value.Value.TheVariants as value
@@ -9,6 +9,7 @@ use Rattle.lua_steps.specs.Loops.{counted, turn}
 use Rattle.lua_machine.specs.declared.pace.Pace.{Pace}
 use Rattle.lua_machine.specs.Quick.{in_hand}
 use Rattle.lua_machine.proofs.LoopLemmas.{next_some}
+use Rattle.lua_machine.proofs.QuickLemmas.{written_after}
 use Rattle.lua_machine.proofs.quick.turn_by.Goals as goal
 
 pub returns-clause-ok : goal.returns-clause-ok
@@ -20,10 +21,12 @@ returns-clause-ok c =
     let p : Pace = record { at = c.args.to; left = c.in-Some.paid.left } in
     let v = c.after-next.ensures ∙ ap₂ (λ (a b : ℤ). value.Int (lua.add a b)) (to_z-of_z w64 c.args.value c.ranges.value) (to_z-of_z w64 step c.ranges.step) in
     let w = c.long-by.ensures ∙ ap (λ (a : ℤ). value.Int a) (to_z-of_z w64 step c.ranges.step) in
-    let slots = c.set_turn.ensures.is ∙ ap₂ (λ (a b : Value). written row (c.args.base + c.args.slot) (counted (n - 1) ∷ a ∷ b ∷ a ∷ [])) v w in
+    let slots = c.put_turn.ensures ∙ ap₂ (λ (a b : Value). written row c.args.base (counted (n - 1) ∷ a ∷ b ∷ a ∷ [])) v w in
+    let turned = counted (n - 1) ∷ value.Int (lua.add c.args.value step) ∷ value.Int step ∷ value.Int (lua.add c.args.value step) ∷ [] in
     record {
-      is = λ f m.
-          next_some n c.args.value step c.args.pay c.args.slot c.args.to (in_hand f c.args.base row c.args.pace m) some
-          ∙ c.in-Some.ensures.is f c.args.base row m (λ (t : Machine). jump c.args.to (turn (n - 1) (lua.add c.args.value step) step c.args.slot t))
-          ∙ ap (λ (r : List Value). On (in_hand f c.args.base r p m)) (sym slots);
+      is = λ g cells.
+          let x = in_hand g row cells p in
+          next_some n c.args.value step c.args.pay c.args.base c.args.to (in_hand g row cells c.args.pace) some
+          ∙ c.in-Some.ensures.is g row cells (λ (t : Machine). jump c.args.to (turn (n - 1) (lua.add c.args.value step) step c.args.base t))
+          ∙ ap (λ (r : List Value). On (record x { row = r })) (written_after g.before row c.args.base turned ∙ ap (λ (r : List Value). g.before ++ r) (sym slots));
     }
