@@ -11,6 +11,7 @@ mod pace;
 mod perform;
 mod quick;
 mod run;
+mod stack;
 mod state;
 mod stop;
 

@@ -43,7 +43,8 @@ impl State {
         ensures went { IfOk result (λ went. exec code.now self.old ≡ says went self.new) }
         ensures narrow { NarrowAt (op_at code.now self.old.top.function self.old.top.at) self.old }
     {
-        match fetch(code, self.top.function, self.top.at) {
+        let top = self.stack.top();
+        match fetch(code, top.function, top.at) {
             Some(op) => self.perform(code, op),
             None => Ok(Went::Stuck),
         }
