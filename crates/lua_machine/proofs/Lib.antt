@@ -1,4 +1,5 @@
 pub mod RowLemmas
+pub mod StackLemmas
 pub mod RunLemmas
 pub mod CallLemmas
 pub mod LoopLemmas

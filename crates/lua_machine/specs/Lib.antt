@@ -1,4 +1,6 @@
 pub mod Wants
+pub mod Stack
+pub mod Lends
 pub mod Views
 pub mod Runs
 pub mod Follows

@@ -16,7 +16,6 @@ use lua_value::{Value, Values};
 use sk_types::NoMemory;
 use std::alloc::Global;
 use std::collections::VecDeque;
-use std::mem;
 
 /// How many slots a frame has: at least those that a short operand can name.
 fn room(shape: Shape) -> usize
@@ -141,9 +140,9 @@ impl State {
             return Ok(Went::Off(Stop::Budget));
         };
         self.place_args(call.shape, args, base)?;
-        self.top.wait(wants);
-        let caller = mem::replace(&mut self.top, call.frame);
-        self.below.push_front(caller)?;
+        let top = self.stack.top_mut();
+        top.wait(wants);
+        self.stack.enter(call.frame)?;
         Ok(Went::On)
     }
 
@@ -156,7 +155,8 @@ impl State {
     ) -> Result<Went, NoMemory>
         ensures { IfOk result (λ went. enter code.now (slice_get self.old.closures closure) args.now self.old.top.base self.old.below self.old ≡ says went self.new) }
     {
-        let base = self.top.base;
+        let top = self.stack.top();
+        let base = top.base;
         let Some(call) = self.open(code, closure, args, base)? else {
             return Ok(Went::Stuck);
         };
@@ -164,7 +164,8 @@ impl State {
             return Ok(Went::Off(Stop::Budget));
         };
         self.place_args(call.shape, args, base)?;
-        self.top = call.frame;
+        let top = self.stack.top_mut();
+        *top = call.frame;
         Ok(Went::On)
     }
 
@@ -173,7 +174,8 @@ impl State {
         requires { self.old.top.at < usize.MAX }
         ensures { asked self.old.left (record { called = called; args = args }) (record self.old { top = waiting (wanted_of wants) self.old.top }) ≡ says result self.new }
     {
-        self.top.wait(wants);
+        let top = self.stack.top_mut();
+        top.wait(wants);
         if self.left == 0 {
             return Went::Off(Stop::Budget);
         }
@@ -223,12 +225,16 @@ impl State {
     pub fn receive(&mut self, values: Values) -> Result<(), NoMemory>
         ensures { OnOk result (self.new ≡ received self.old.top.wants values self.old) }
     {
-        match self.top.wants {
+        let top = self.stack.top();
+        match top.wants {
             Wanted::InSlots { to, count } => {
-                let place = self.top.base as usize + to as usize;
+                let place = top.base as usize + to as usize;
                 self.write(place, count as usize, values.as_slice());
             }
-            Wanted::OnTop => self.top.lists.push_front(values)?,
+            Wanted::OnTop => {
+                let top = self.stack.top_mut();
+                top.lists.push_front(values)?;
+            }
         }
         Ok(())
     }
@@ -237,10 +243,9 @@ impl State {
     pub fn hand(&mut self, values: Values) -> Result<Went, NoMemory>
         ensures { IfOk result (λ went. hand values self.old.below self.old ≡ says went self.new) }
     {
-        let Some(frame) = self.below.pop_front() else {
+        if !self.stack.leave() {
             return Ok(Went::Off(Stop::Return(values)));
-        };
-        self.top = frame;
+        }
         self.receive(values)?;
         Ok(Went::On)
     }

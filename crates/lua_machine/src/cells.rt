@@ -88,27 +88,31 @@ impl State {
     pub fn own_cell(&self, i: u16) -> Value
         ensures { result ≡ value_at self.now.cells (cell_of self.now.top.cells i) }
     {
-        self.cell(cell_of(self.top.cells.as_slice(), i))
+        let top = self.stack.top();
+        self.cell(cell_of(top.cells.as_slice(), i))
     }
 
     /// The value of one of the closure's cells.
     pub fn up(&self, i: u16) -> Value
         ensures { result ≡ value_at self.now.cells (cell_of self.now.top.ups i) }
     {
-        self.cell(cell_of(self.top.ups.as_slice(), i))
+        let top = self.stack.top();
+        self.cell(cell_of(top.ups.as_slice(), i))
     }
 
     pub fn set_own_cell(&mut self, i: u16, value: Value)
         ensures { self.new ≡ record self.old { cells = slice_set self.old.cells (cell_of self.old.top.cells i) value } }
     {
-        let cell = cell_of(self.top.cells.as_slice(), i);
+        let top = self.stack.top();
+        let cell = cell_of(top.cells.as_slice(), i);
         self.set_cell(cell, value);
     }
 
     pub fn set_up(&mut self, i: u16, value: Value)
         ensures { self.new ≡ record self.old { cells = slice_set self.old.cells (cell_of self.old.top.ups i) value } }
     {
-        let cell = cell_of(self.top.ups.as_slice(), i);
+        let top = self.stack.top();
+        let cell = cell_of(top.ups.as_slice(), i);
         self.set_cell(cell, value);
     }
 
@@ -117,7 +121,8 @@ impl State {
         ensures { OnOk result (self.new ≡ new_cell i value self.old) }
     {
         let cell = self.heap.cell(value)?;
-        if let Some(kept) = self.top.cells.get_mut(i as usize) {
+        let top = self.stack.top_mut();
+        if let Some(kept) = top.cells.get_mut(i as usize) {
             *kept = cell;
         }
         Ok(())
@@ -128,7 +133,7 @@ impl State {
         ensures { IfOk result (λ cells. cells.items ≡ taken code.now function self.now.top) }
     {
         match code.get(function as usize) {
-            Some(function) => taken(self.alloc, &self.top, function.captures()),
+            Some(function) => taken(self.alloc, self.stack.top(), function.captures()),
             None => Ok(Vec::new(self.alloc)),
         }
     }
@@ -180,7 +185,7 @@ impl State {
         requires { self.old.top.at < usize.MAX }
         ensures { IfOk result (λ went. constant_value (constant_at code.now self.old.top.function index) to self.old ≡ says went self.new) }
     {
-        let Some(function) = code.get(self.top.function as usize) else {
+        let Some(function) = code.get(self.function() as usize) else {
             return Ok(Went::Stuck);
         };
         let Some(constant) = function.constants().get(index as usize) else {

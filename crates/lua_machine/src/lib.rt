@@ -12,6 +12,7 @@ mod perform;
 mod quick;
 mod run;
 mod slots;
+mod stack;
 mod state;
 mod stop;
 

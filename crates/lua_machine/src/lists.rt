@@ -15,7 +15,8 @@ impl State {
         requires { self.old.top.at < usize.MAX }
         ensures { IfOk result (λ went. next (with_lists ([] ∷ self.old.top.lists) self.old) ≡ says went self.new) }
     {
-        self.top.lists.push_front(Values::new(self.alloc))?;
+        let top = self.stack.top_mut();
+        top.lists.push_front(Values::new(self.alloc))?;
         self.goes_on();
         Ok(Went::On)
     }
@@ -26,11 +27,13 @@ impl State {
         ensures { IfOk result (λ went. on_list self.old.top.lists (λ l ls. next (with_lists ((l ++ slot self.old from ∷ []) ∷ ls) self.old)) ≡ says went self.new) }
     {
         let value = self.slot(from);
-        let Some(mut list) = self.top.lists.pop_front() else {
+        let top = self.stack.top_mut();
+        let Some(mut list) = top.lists.pop_front() else {
             return Ok(Went::Stuck);
         };
         list.push(value)?;
-        self.top.lists.push_front(list)?;
+        let top = self.stack.top_mut();
+        top.lists.push_front(list)?;
         self.goes_on();
         Ok(Went::On)
     }
@@ -40,14 +43,17 @@ impl State {
         requires { self.old.top.at < usize.MAX }
         ensures { IfOk result (λ went. on_list self.old.top.lists (λ vs ls. on_list ls (λ us rest. next (with_lists ((us ++ vs) ∷ rest) self.old))) ≡ says went self.new) }
     {
-        let Some(last) = self.top.lists.pop_front() else {
+        let top = self.stack.top_mut();
+        let Some(last) = top.lists.pop_front() else {
             return Ok(Went::Stuck);
         };
-        let Some(mut list) = self.top.lists.pop_front() else {
+        let top = self.stack.top_mut();
+        let Some(mut list) = top.lists.pop_front() else {
             return Ok(Went::Stuck);
         };
         list.push_slice(last.as_slice())?;
-        self.top.lists.push_front(list)?;
+        let top = self.stack.top_mut();
+        top.lists.push_front(list)?;
         self.goes_on();
         Ok(Went::On)
     }
@@ -57,8 +63,10 @@ impl State {
         requires { self.old.top.at < usize.MAX }
         ensures { IfOk result (λ went. next (with_lists (self.old.top.dots ∷ self.old.top.lists) self.old) ≡ says went self.new) }
     {
-        let list = Values::from_slice(self.alloc, self.top.dots.as_slice())?;
-        self.top.lists.push_front(list)?;
+        let top = self.stack.top();
+        let list = Values::from_slice(self.alloc, top.dots.as_slice())?;
+        let top = self.stack.top_mut();
+        top.lists.push_front(list)?;
         self.goes_on();
         Ok(Went::On)
     }
@@ -68,8 +76,9 @@ impl State {
         requires { self.old.top.at < usize.MAX }
         ensures { IfOk result (λ went. next (with_slots to (adjusted count self.old.top.dots) self.old) ≡ says went self.new) }
     {
-        let list = Values::from_slice(self.alloc, self.top.dots.as_slice())?;
-        let place = self.top.base as usize + to as usize;
+        let top = self.stack.top();
+        let list = Values::from_slice(self.alloc, top.dots.as_slice())?;
+        let place = self.base() + to as usize;
         self.write(place, count as usize, list.as_slice());
         self.goes_on();
         Ok(Went::On)
@@ -80,10 +89,11 @@ impl State {
         requires { self.old.top.at < usize.MAX }
         ensures { on_list self.old.top.lists (λ vs ls. next (with_slots to (adjusted count vs) (with_lists ls self.old))) ≡ says result self.new }
     {
-        let Some(list) = self.top.lists.pop_front() else {
+        let top = self.stack.top_mut();
+        let Some(list) = top.lists.pop_front() else {
             return Went::Stuck;
         };
-        let place = self.top.base as usize + to as usize;
+        let place = self.base() + to as usize;
         self.write(place, count as usize, list.as_slice());
         self.goes_on();
         Went::On
@@ -94,7 +104,8 @@ impl State {
         requires { self.old.top.at < usize.MAX }
         ensures { on_list self.old.top.lists (λ vs ls. gives to (value_at vs index) self.old) ≡ says result self.new }
     {
-        let Some(list) = self.top.lists.front() else {
+        let top = self.stack.top();
+        let Some(list) = top.lists.front() else {
             return Went::Stuck;
         };
         let value = list.get(index as usize);

@@ -44,7 +44,7 @@ impl State {
     fn set_turn(&mut self, left: u64, value: i64, step: i64, base: u16)
         ensures { self.new ≡ turn left value step base self.old }
     {
-        let place = self.top.base as usize + base as usize;
+        let place = self.base() + base as usize;
         let slots = [
             Value::Int(left.cast_signed()),
             Value::Int(value),

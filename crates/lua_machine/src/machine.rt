@@ -7,6 +7,7 @@ ghost use Rattle.lua_machine.specs.Follows.{Opens, BeginsAnew, Follows, NoRuleIf
 ghost use Rattle.lua_machine.specs.Views.{stops};
 
 use crate::frame::{Frame, Wanted};
+use crate::stack::CallStack;
 use crate::state::State;
 use crate::stop::{GoError, Stop};
 use lua_code::Code;
@@ -84,8 +85,7 @@ impl Machine {
             name,
             heap,
             row: Vec::new(alloc),
-            top: fresh(alloc, called)?,
-            below: VecDeque::new(alloc),
+            stack: CallStack::new(alloc, fresh(alloc, called)?)?,
             left: budget,
         };
         Ok(Machine {

@@ -24,10 +24,11 @@ impl State {
     fn line(&self, code: &[Function]) -> u32
         ensures { result ≡ line code.now self.now }
     {
-        let Some(function) = code.get(self.top.function as usize) else {
+        let top = self.stack.top();
+        let Some(function) = code.get(top.function as usize) else {
             return 0;
         };
-        match function.lines().get(self.top.at) {
+        match function.lines().get(top.at) {
             Some(line) => *line,
             None => 0,
         }
@@ -101,7 +102,8 @@ impl State {
         let line = self.line(code);
         let called = self.slot(base);
         let values = self.slots_from(u32::from(base) + 1, args as usize)?;
-        let Some(place) = self.top.base.checked_add(u32::from(base) + 1) else {
+        let top = self.stack.top();
+        let Some(place) = top.base.checked_add(u32::from(base) + 1) else {
             return Err(NoMemory);
         };
         self.call(code, Some(line), called, values, place, wants)
@@ -114,7 +116,8 @@ impl State {
         let line = self.line(code);
         let called = self.slot(base);
         let values = self.slots_from(u32::from(base) + 1, args as usize)?;
-        let Some(place) = self.top.base.checked_add(u32::from(base) + 1) else {
+        let top = self.stack.top();
+        let Some(place) = top.base.checked_add(u32::from(base) + 1) else {
             return Err(NoMemory);
         };
         self.tail_call(code, line, called, values, place)
@@ -203,7 +206,8 @@ impl State {
         let line = self.line(code);
         let called = self.slot(base);
         let values = self.slots_from(u32::from(base) + 1, 2)?;
-        let Some(place) = self.top.base.checked_add(u32::from(base) + 3) else {
+        let top = self.stack.top();
+        let Some(place) = top.base.checked_add(u32::from(base) + 3) else {
             return Err(NoMemory);
         };
         let wants = Wanted::InSlots {
@@ -223,7 +227,8 @@ impl State {
     fn hand_list(&mut self) -> Result<Went, NoMemory>
         ensures { IfOk result (λ went. on_list self.old.top.lists (λ vs ls. hand vs self.old.below (with_lists ls self.old)) ≡ says went self.new) }
     {
-        let Some(values) = self.top.lists.pop_front() else {
+        let top = self.stack.top_mut();
+        let Some(values) = top.lists.pop_front() else {
             return Ok(Went::Stuck);
         };
         self.hand(values)
@@ -234,10 +239,12 @@ impl State {
         ensures { IfOk result (λ went. on_list self.old.top.lists (λ l ls. applied l (λ f vs. calls_listed code.now (Some (line code.now self.old)) f vs (self.old.top.base + base) (with_lists ls self.old))) ≡ says went self.new) }
     {
         let line = self.line(code);
-        let Some(place) = self.top.base.checked_add(u32::from(base)) else {
+        let top = self.stack.top();
+        let Some(place) = top.base.checked_add(u32::from(base)) else {
             return Err(NoMemory);
         };
-        let Some(list) = self.top.lists.pop_front() else {
+        let top = self.stack.top_mut();
+        let Some(list) = top.lists.pop_front() else {
             return Ok(Went::Stuck);
         };
         let [called, args @ ..] = list.as_slice() else {
@@ -252,10 +259,12 @@ impl State {
         ensures { IfOk result (λ went. on_list self.old.top.lists (λ l ls. applied l (λ f vs. tail_calls_listed code.now (line code.now self.old) f vs (self.old.top.base + base) (with_lists ls self.old))) ≡ says went self.new) }
     {
         let line = self.line(code);
-        let Some(place) = self.top.base.checked_add(u32::from(base)) else {
+        let top = self.stack.top();
+        let Some(place) = top.base.checked_add(u32::from(base)) else {
             return Err(NoMemory);
         };
-        let Some(list) = self.top.lists.pop_front() else {
+        let top = self.stack.top_mut();
+        let Some(list) = top.lists.pop_front() else {
             return Ok(Went::Stuck);
         };
         let [called, args @ ..] = list.as_slice() else {
@@ -270,8 +279,10 @@ impl State {
         requires { self.old.top.at < usize.MAX }
         ensures { IfOk result (λ went. on_list self.old.top.lists (λ l ls. applied l (λ f vs. calls_listed code.now None f vs self.old.top.base (with_lists ls self.old))) ≡ says went self.new) }
     {
-        let place = self.top.base;
-        let Some(list) = self.top.lists.pop_front() else {
+        let top = self.stack.top();
+        let place = top.base;
+        let top = self.stack.top_mut();
+        let Some(list) = top.lists.pop_front() else {
             return Ok(Went::Stuck);
         };
         let [called, args @ ..] = list.as_slice() else {

@@ -7,6 +7,7 @@ ghost use Rattle.lua_follow.specs.Follows.{NarrowAt};
 ghost use Rattle.lua_machine.specs.Runs.{Runs, StuckIf, SpentIf};
 ghost use Rattle.lua_machine.specs.Views.{says, stops};
 
+use crate::pace::Pace;
 use crate::quick::block;
 use crate::state::State;
 use crate::stop::{GoError, Stop, Went};
@@ -43,23 +44,29 @@ impl State {
         ensures went { IfOk result (λ went. exec code.now self.old ≡ says went self.new) }
         ensures narrow { NarrowAt (op_at code.now self.old.top.function self.old.top.at) self.old }
     {
-        match fetch(code, self.top.function, self.top.at) {
+        let top = self.stack.top();
+        match fetch(code, top.function, top.at) {
             Some(op) => self.perform(code, op),
             None => Ok(Went::Stuck),
         }
     }
 
-    /// Quick operations, up to one that is not or that comes to a stop.
+    /// Quick operations, up to one that is not or that comes to a stop. The frame's slots are there in every run of compiled code.
+    #[inline(always)]
     fn hurry(&mut self, code: &[Function])
         requires { IsValid code.now }
         ensures { Runs code.now self.old (steps.On self.new) }
     {
-        let function = self.top.function;
+        let top = self.stack.top();
+        let function = top.function;
+        let base = top.base as usize;
+        let start = Pace {
+            at: top.at,
+            left: self.left,
+        };
         let Some(routine) = code.get(function as usize) else {
             return;
         };
-        let base = self.top.base as usize;
-        let start = self.pace();
         if start.at >= routine.ops().len() || self.row.len() < base {
             return;
         }
@@ -67,11 +74,10 @@ impl State {
         if slots.len() < routine.shape().slots as usize {
             return;
         }
-        let own = self.top.cells.as_slice();
-        let ups = self.top.ups.as_slice();
+        let own = top.cells.as_slice();
+        let ups = top.ups.as_slice();
         let pace = block(code, function, routine, slots, &mut self.heap, own, ups, start);
-        self.top.at = pace.at;
-        self.left = pace.left;
+        self.settle(pace);
     }
 
     /// Runs to the next stop. The values go to the frame that waits for them.

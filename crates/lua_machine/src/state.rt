@@ -7,8 +7,8 @@ ghost use Rattle.lua_operators.specs.Answers.{told};
 ghost use Rattle.lua_follow.specs.Follows.{Narrow};
 ghost use Rattle.lua_machine.specs.Views.{says, IsMade};
 
-use crate::frame::Frame;
 use crate::pace::Pace;
+use crate::stack::CallStack;
 use crate::stop::{Stop, Went};
 use lua_heap::{Heap, HeapFault};
 use lua_model::{Refusal, position};
@@ -16,7 +16,6 @@ use lua_operators::Answer;
 use lua_value::{Value, Values};
 use sk_types::{Bytes, NoMemory};
 use std::alloc::Global;
-use std::collections::VecDeque;
 use std::marker::Model;
 use std::mem;
 
@@ -27,9 +26,7 @@ pub struct State {
     pub name: Bytes,
     pub heap: Heap,
     pub row: Vec<Value>,
-    pub top: Frame,
-    /// The frames that wait, the innermost first.
-    pub below: VecDeque<Frame>,
+    pub stack: CallStack,
     pub left: u64,
 }
 
@@ -40,8 +37,8 @@ impl Model for State {
     ghost Value = { steps.Machine };
 
     ghost view = { λ s. record {
-      top = s.top;
-      below = s.below.items;
+      top = s.stack.top;
+      below = s.stack.below;
       row = s.row.items;
       cells = s.heap.cells;
       closures = s.heap.closures;
@@ -110,59 +107,30 @@ impl State {
         requires { self.old.top.at < usize.MAX }
         ensures { next self.old ≡ steps.On self.new }
     {
-        self.top.advance();
+        let top = self.stack.top_mut();
+        top.advance();
     }
 
     pub fn jump(&mut self, to: u32)
         ensures { jump to self.old ≡ steps.On self.new }
     {
-        self.top.jump(to);
+        let top = self.stack.top_mut();
+        top.jump(to);
     }
 
-    pub fn function(&self) -> u64
-        ensures { result ≡ self.now.top.function }
+    /// The place and the ticks that a run came to.
+    #[inline(always)]
+    pub fn settle(&mut self, pace: Pace)
+        ensures { self.new ≡ record self.old { top = record self.old.top { at = pace.at }; left = pace.left } }
     {
-        self.top.function
-    }
-
-    pub fn base(&self) -> usize
-        ensures sum { result ≡ self.now.top.base }
-        ensures fits { result < 10000000000 }
-    {
-        self.top.base as usize
-    }
-
-    pub fn pace(&self) -> Pace
-        ensures at { result.at ≡ self.now.top.at }
-        ensures left { result.left ≡ self.now.left }
-    {
-        Pace {
-            at: self.top.at,
-            left: self.left,
-        }
-    }
-
-    /// Lends the row out, up to `settle`.
-    pub fn take_row(&mut self) -> Vec<Value>
-        ensures row { result.items ≡ self.old.row }
-        ensures rest { self.new ≡ record self.old { row = [] } }
-    {
-        mem::replace(&mut self.row, Vec::new(self.alloc))
-    }
-
-    /// Takes the row back, with the place and the ticks that a run came to.
-    pub fn settle(&mut self, row: Vec<Value>, pace: Pace)
-        ensures { self.new ≡ record self.old { row = row.items; top = record self.old.top { at = pace.at }; left = pace.left } }
-    {
-        self.row = row;
-        self.top.at = pace.at;
+        self.stack.top_mut().at = pace.at;
         self.left = pace.left;
     }
 
     pub fn slot(&self, i: u16) -> Value
         ensures { result ≡ slot self.now i }
     {
-        self.row_at(self.top.base as usize + i as usize)
+        self.row_at(self.base() + i as usize)
     }
 
     /// The slot so many after another.
@@ -170,13 +138,13 @@ impl State {
         ensures is { result ≡ slot self.now (base + i) }
         ensures narrow { Narrow result }
     {
-        narrow(self.row_at(self.top.base as usize + base as usize + i as usize))
+        narrow(self.row_at(self.base() + base as usize + i as usize))
     }
 
     pub fn set_slot_after(&mut self, base: u16, i: u16, value: Value)
         ensures { self.new ≡ with_slot (base + i) value self.old }
     {
-        self.set_row(self.top.base as usize + base as usize + i as usize, value);
+        self.set_row(self.base() + base as usize + i as usize, value);
     }
 
     /// Where a slot stands in the row.
@@ -184,7 +152,8 @@ impl State {
         ensures sum { result ≡ self.now.top.base + slot }
         ensures fits { result < 10000000000 }
     {
-        self.top.base as usize + slot as usize
+        let top = self.stack.top();
+        top.base as usize + slot as usize
     }
 
     fn row_at(&self, place: usize) -> Value
@@ -204,7 +173,7 @@ impl State {
     pub fn set_slot(&mut self, i: u16, value: Value)
         ensures { self.new ≡ with_slot i value self.old }
     {
-        self.set_row(self.top.base as usize + i as usize, value);
+        self.set_row(self.base() + i as usize, value);
     }
 
     /// The value goes to a slot, and the next operation follows.

@@ -1,0 +1,92 @@
+ghost use Rattle.std.specs.Prelude.{◌≡◌, [], ◌∷◌, ◌<◌, IfOk, OnOk, slice_get, option_copied};
+ghost use Rattle.std.specs.Borrow.{sem};
+ghost use Rattle.lua_machine.specs.Lends.{LendsTop};
+ghost use Rattle.lua_machine.specs.Stack.{Left};
+
+use crate::frame::Frame;
+use sk_types::NoMemory;
+use std::alloc::Global;
+use std::marker::Model;
+
+/// The frames of the running thread. Those past the depth are dead, and kept for the next calls.
+#[derive(Drop)]
+pub struct CallStack {
+    frames: Vec<Frame>,
+    depth: usize,
+}
+
+impl Model for CallStack {
+    ghost use Rattle.std.specs.Prelude.{◌<◌, vec_len};
+    ghost use Rattle.lua_machine.specs.Stack.{Stacked, stacked};
+
+    ghost Value = { Stacked };
+
+    ghost view = { λ s. stacked s.frames.items s.depth };
+
+    ghost invariant = { λ s. s.depth < vec_len s.frames };
+}
+
+impl CallStack {
+    /// The frame that runs.
+    #[inline(always)]
+    pub fn top(&self) -> &Frame
+        ensures { result.now ≡ self.now.top }
+    {
+        &self.frames[self.depth]
+    }
+
+    #[inline(always)]
+    pub fn top_mut(&mut self) -> &mut Frame
+        ensures* lends { sem 𝓛 (LendsTop self.entry result) }
+        ensures value { result.now ≡ self.old.top }
+    {
+        &mut self.frames[self.depth]
+    }
+
+    /// A thread's frames begin with one.
+    pub fn new(alloc: Global, frame: Frame) -> Result<CallStack, NoMemory>
+        ensures { IfOk result (λ stack. stack ≡ record { top = frame; below = [] }) }
+    {
+        let mut frames = Vec::new(alloc);
+        frames.push(frame)?;
+        Ok(CallStack { frames, depth: 0 })
+    }
+
+    /// A call begins: the frame that ran waits for it.
+    pub fn enter(&mut self, frame: Frame) -> Result<(), NoMemory>
+        ensures { OnOk result (self.new ≡ record { top = frame; below = self.old.top ∷ self.old.below }) }
+    {
+        let next = self.depth + 1;
+        if next < self.frames.len() {
+            self.frames[next] = frame;
+            self.depth = next;
+            return Ok(());
+        }
+        self.frames.push(frame)?;
+        self.depth = next;
+        Ok(())
+    }
+
+    /// The frame that waits for the one that runs.
+    #[inline(always)]
+    pub fn caller(&self) -> Option<&Frame>
+        ensures { option_copied result ≡ slice_get self.now.below 0 }
+    {
+        if self.depth == 0 {
+            return None;
+        }
+        Some(&self.frames[self.depth - 1])
+    }
+
+    /// The frame that ran ends, and the one that waits for it goes on, where there is one.
+    #[inline(always)]
+    pub fn leave(&mut self) -> bool
+        ensures { Left result self.old self.new }
+    {
+        if self.depth == 0 {
+            return false;
+        }
+        self.depth -= 1;
+        true
+    }
+}
