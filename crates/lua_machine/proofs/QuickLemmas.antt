@@ -15,7 +15,7 @@ use Rattle.lua_steps.specs.Measure.{total, rank, MeasureFalls}
 use Rattle.lua_follow.specs.Follows.{NarrowAt}
 use Rattle.lua_machine.specs.declared.pace.Pace.{Pace}
 use Rattle.lua_machine.specs.Runs.{Runs}
-use Rattle.lua_machine.specs.Quick.{around, in_hand, Quick, Ran, Within, Near}
+use Rattle.lua_machine.specs.Quick.{around, in_hand, placed, Quick, Ran, Led, Within, Near}
 use Rattle.lua_machine.proofs.RunLemmas.{runs_more, runs_none}
 
 -- ---- slots behind others
@@ -221,3 +221,43 @@ split (suc n) (x ∷ xs) le =
     let less : n ≤ length xs = omega (arith, le) in
     let (same , long) = split n xs less in
     (ap (λ (ys : List Value). x ∷ ys) same , ap (λ (k : ℕ). suc k) long)
+
+pub led : (code : Code) (f : ℕ) (own ups : List ℕ) (base : ℕ) (row cells : List Value) (pace : Pace) (w later : List Value) (then_at : Pace) → base ≤ length row
+    → Ran code f own ups (drop base row) cells pace w later then_at → Led code f own ups base row cells pace (take base row ++ w) later then_at
+led code f own ups base row cells pace w later then_at le ran =
+    let (same , long) = split base row le in
+    record {
+      is = λ m.
+          subst (λ (r : List Value). Runs code (placed f own ups base r cells pace m) (On (placed f own ups base (take base row ++ w) later then_at m))) same
+          (subst (λ (n : ℕ). Runs code (placed f own ups n (take base row ++ drop base row) cells pace m) (On (placed f own ups n (take base row ++ w) later then_at m))) long
+          (ran.is (take base row) m));
+    }
+
+-- a run of quick operations is a run of the machine from which it was begun
+pub hurried : (code : Code) (m to : Machine) (f base : ℕ) (own ups : List ℕ) (row cells after later : List Value) (start pace : Pace) → Led code f own ups base row cells start after later pace
+    → f ≡ m.top.function → base ≡ m.top.base → own ≡ m.top.cells → ups ≡ m.top.ups → row ≡ m.row → cells ≡ m.cells → start.at ≡ m.top.at → start.left ≡ m.left
+    → to ≡ record m { top = record m.top { at = pace.at }; row = after; cells = later; left = pace.left } → Runs code m (On to)
+hurried code m to f base own ups row cells after later start pace run same_f same_base same_own same_ups same_row same_cells same_at same_left same =
+    let begun : placed f own ups base row cells start m ≡ m =
+    ap (λ (x : ℕ). record m { top = record m.top { function = x; at = start.at; base = base; cells = own; ups = ups }; row = row; cells = cells; left = start.left }) same_f
+    ∙ ap (λ (x : ℕ). record m { top = record m.top { at = start.at; base = x; cells = own; ups = ups }; row = row; cells = cells; left = start.left }) same_base
+    ∙ ap (λ (x : List ℕ). record m { top = record m.top { at = start.at; cells = x; ups = ups }; row = row; cells = cells; left = start.left }) same_own
+    ∙ ap (λ (x : List ℕ). record m { top = record m.top { at = start.at; ups = x }; row = row; cells = cells; left = start.left }) same_ups
+    ∙ ap (λ (x : List Value). record m { top = record m.top { at = start.at }; row = x; cells = cells; left = start.left }) same_row
+    ∙ ap (λ (x : List Value). record m { top = record m.top { at = start.at }; cells = x; left = start.left }) same_cells
+    ∙ ap (λ (x : ℕ). record m { top = record m.top { at = x }; left = start.left }) same_at
+    ∙ ap (λ (x : ℕ). record m { left = x }) same_left in
+    let ended : placed f own ups base after later pace m ≡ to =
+    ap (λ (x : ℕ). record m { top = record m.top { function = x; at = pace.at; base = base; cells = own; ups = ups }; row = after; cells = later; left = pace.left }) same_f
+    ∙ ap (λ (x : ℕ). record m { top = record m.top { at = pace.at; base = x; cells = own; ups = ups }; row = after; cells = later; left = pace.left }) same_base
+    ∙ ap (λ (x : List ℕ). record m { top = record m.top { at = pace.at; cells = x; ups = ups }; row = after; cells = later; left = pace.left }) same_own
+    ∙ ap (λ (x : List ℕ). record m { top = record m.top { at = pace.at; ups = x }; row = after; cells = later; left = pace.left }) same_ups
+    ∙ sym same in
+    subst (λ (x : Machine). Runs code x (On to)) begun (subst (λ (x : Machine). Runs code (placed f own ups base row cells start m) (On x)) ended (run.is m))
+
+took : (xs ys : List Value) → take (length xs) (xs ++ ys) ≡ xs
+took [] ys = refl
+took (x ∷ xs) ys = ap (λ (zs : List Value). x ∷ zs) (took xs ys)
+
+pub taken_all : (n : ℕ) (xs ys : List Value) → length xs ≡ n → take n (xs ++ ys) ≡ xs
+taken_all n xs ys e = ap (λ (k : ℕ). take k (xs ++ ys)) (sym e) ∙ took xs ys

@@ -53,6 +53,15 @@ pub record OnSlots (o : Op) (row : List Value) (pace : Pace) (after : List Value
 pub record Ran (code : Code) (f : ℕ) (own ups : List ℕ) (row cells : List Value) (pace : Pace) (after later : List Value) (then_at : Pace) : Type 0 where
   pub is : (before : List Value) (m : Machine) → Runs code (in_hand (around f own ups before m) row cells pace) (On (in_hand (around f own ups before m) after later then_at))
 
+-- the machine whose frame's slots begin at a place of this row
+abbrev pub placed : ℕ → List ℕ → List ℕ → ℕ → List Value → List Value → Pace → Machine → Machine
+placed f own ups base row cells pace m =
+    record m { top = record m.top { function = f; at = pace.at; base = base; cells = own; ups = ups }; row = row; cells = cells; left = pace.left }
+
+-- some number of operations does, in a whole row
+pub record Led (code : Code) (f : ℕ) (own ups : List ℕ) (base : ℕ) (row cells : List Value) (pace : Pace) (after later : List Value) (then_at : Pace) : Type 0 where
+  pub is : (m : Machine) → Runs code (placed f own ups base row cells pace m) (On (placed f own ups base after later then_at m))
+
 -- ---- what valid code says of them
 -- the slots that a quick operation names are among so many
 abbrev pub Within : ℕ → Op → Type 0

@@ -6,7 +6,7 @@ ghost use Rattle.lua_value.specs.Lists.{value_at};
 ghost use Rattle.lua_model.specs.declared.operator.Binary.TheVariants as binary_op;
 ghost use Rattle.lua_code.specs.declared.op.Op.TheVariants as op;
 ghost use Rattle.lua_code.specs.Valid.{IsValid};
-ghost use Rattle.lua_machine.specs.Quick.{Quick, OnSlots, Within, Near, IsGiven, IsOfSlots, IsOfInt, IsTestOfSlots, IsTestOfInt, Turns, Ran};
+ghost use Rattle.lua_machine.specs.Quick.{Quick, OnSlots, Within, Near, IsGiven, IsOfSlots, IsOfInt, IsTestOfSlots, IsTestOfInt, Turns, Ran, Led};
 
 use crate::cells::{cell_of, cell_value, put_in_cell};
 use crate::pace::Pace;
@@ -586,4 +586,28 @@ pub fn block(
         };
         pace = next;
     }
+}
+
+/// The same in a whole row, in which the frame's slots begin at `base`.
+#[inline(always)]
+pub fn block_at(
+    code: &[Function],
+    _function: u64,
+    routine: &Function,
+    row: &mut [Value],
+    base: usize,
+    heap: &mut Heap,
+    own: &[u64],
+    ups: &[u64],
+    start: Pace,
+) -> Pace
+    requires valid { IsValid code.now }
+    requires routine { slice_get code.now _function ≡ Some routine.now }
+    requires slots { base + routine.now.shape.slots ≤ length row.old }
+    requires place { start.at < length routine.now.ops }
+    ensures led { Led code.now _function own.now ups.now base row.old heap.old.cells start row.new heap.new.cells result }
+    ensures heap { heap.new ≡ record heap.old { cells = heap.new.cells } }
+{
+    let (_before, slots) = row.split_at_mut(base);
+    block(code, _function, routine, slots, heap, own, ups, start)
 }

@@ -8,7 +8,7 @@ ghost use Rattle.lua_machine.specs.Runs.{Runs, StuckIf, SpentIf};
 ghost use Rattle.lua_machine.specs.Views.{says, stops};
 
 use crate::pace::Pace;
-use crate::quick::block;
+use crate::quick::block_at;
 use crate::state::State;
 use crate::stop::{GoError, Stop, Went};
 use lua_code::{Function, Op};
@@ -67,16 +67,15 @@ impl State {
         let Some(routine) = code.get(function as usize) else {
             return;
         };
-        if start.at >= routine.ops().len() || self.row.len() < base {
-            return;
-        }
-        let slots = &mut self.row[base..];
-        if slots.len() < routine.shape().slots as usize {
+        let end = base + routine.shape().slots as usize;
+        if start.at >= routine.ops().len() || self.row.len() < end {
             return;
         }
         let own = top.cells.as_slice();
         let ups = top.ups.as_slice();
-        let pace = block(code, function, routine, slots, &mut self.heap, own, ups, start);
+        let row = self.row.as_mut_slice();
+        let heap = &mut self.heap;
+        let pace = block_at(code, function, routine, row, base, heap, own, ups, start);
         self.settle(pace);
     }
 

@@ -118,12 +118,28 @@ impl State {
         top.jump(to);
     }
 
+    pub fn function(&self) -> u64
+        ensures { result ≡ self.now.top.function }
+    {
+        let top = self.stack.top();
+        top.function
+    }
+
+    pub fn base(&self) -> usize
+        ensures sum { result ≡ self.now.top.base }
+        ensures fits { result < 10000000000 }
+    {
+        let top = self.stack.top();
+        top.base as usize
+    }
+
     /// The place and the ticks that a run came to.
     #[inline(always)]
     pub fn settle(&mut self, pace: Pace)
         ensures { self.new ≡ record self.old { top = record self.old.top { at = pace.at }; left = pace.left } }
     {
-        self.stack.top_mut().at = pace.at;
+        let top = self.stack.top_mut();
+        top.at = pace.at;
         self.left = pace.left;
     }
 
