@@ -3,5 +3,6 @@ pub mod StackLemmas
 pub mod RunLemmas
 pub mod CallLemmas
 pub mod LoopLemmas
+pub mod PassLemmas
 pub mod QuickLemmas
 pub mod FollowLemmas

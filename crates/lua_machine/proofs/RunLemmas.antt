@@ -119,3 +119,7 @@ runs_fall code a b c falls valid r e =
     let le : rank (total code) b ≤ rank (total code) a = fallen r.count code a b falls valid r.is in
     let lt : rank (total code) c < rank (total code) b = falls code b c valid e in
     lt_within lt le
+
+-- to a machine that is the same
+pub runs_same : (code : Code) (m t u : Machine) → Runs code m (On t) → u ≡ t → Runs code m (On u)
+runs_same code m t u r e = subst (λ (x : Machine). Runs code m (On x)) (sym e) r

@@ -1,7 +1,7 @@
 -- The frames below a depth stay as they are where a frame at the depth, or past it, changes.
-use Rattle.std.proofs.Common.{◌≡◌, ◌≢◌, ℕ, zero, suc, ◌+◌, ◌<◌, ◌≤◌, List, [], ◌∷◌, ◌++◌, length, refl, sym, ap, ◌∙◌, arith}
+use Rattle.std.proofs.Common.{◌≡◌, ◌≢◌, ℕ, zero, suc, ◌+◌, ◌<◌, ◌≤◌, List, [], ◌∷◌, ◌++◌, length, refl, ap, ◌∙◌, arith}
 use Rattle.std.specs.Prelude.{get_or, slice_set}
-use Rattle.std.proofs.lemmas.List.{get_or-set_same, get_or-set_other}
+use Rattle.std.proofs.lemmas.List.{length-set, get_or-set_same, get_or-set_other}
 use Rattle.lua_value.specs.declared.value.Value.TheVariants as value
 use Rattle.lua_steps.specs.Machine.{Frame}
 use Rattle.lua_steps.specs.Exec.{fresh}
@@ -56,3 +56,25 @@ pub entered_push : (d : ℕ) (fs : List Frame) (f : Frame) (s : Stacked) → d +
 entered_push d fs f s lt e =
     let next : d + 1 ≡ suc d = omega arith in
     stacked_push (d + 1) fs f lt ∙ ap (λ (n : ℕ). record { top = f; below = under n fs }) next ∙ ap (λ (x : Stacked). record { top = f; below = x.top ∷ x.below }) e
+
+-- an entry into a dead frame, where the one that ran ends as `w`
+pub reentered : (d : ℕ) (fs : List Frame) (f w : Frame) (s : Stacked) → d + 1 < length fs → stacked fs d ≡ s → stacked (slice_set (slice_set fs (d + 1) f) d w) (d + 1) ≡ record { top = f; below = w ∷ s.below }
+reentered d fs f w s lt e =
+    let dead = slice_set fs (d + 1) f in
+    let long : length dead ≡ length fs = length-set fs (d + 1) f in
+    let differs : d + 1 ≢ d = λ is. omega arith in
+    let next : d + 1 ≡ suc d = omega arith in
+    let top : frame_at (slice_set dead d w) (d + 1) ≡ f = get_or-set_other dead d (d + 1) w (fresh value.Nil) differs ∙ get_or-set_same fs (d + 1) f (fresh value.Nil) lt in
+    let waits : frame_at (slice_set dead d w) d ≡ w = get_or-set_same dead d w (fresh value.Nil) (omega arith) in
+    let below : under d (slice_set dead d w) ≡ under d fs = under_set d d dead w (omega arith) ∙ under_set d (d + 1) fs f (omega arith) in
+    ap (λ (x : Frame). record { top = x; below = under (d + 1) (slice_set dead d w) }) top
+    ∙ ap (λ (n : ℕ). record { top = f; below = under n (slice_set dead d w) }) next
+    ∙ ap (λ (x : Frame). record { top = f; below = x ∷ under d (slice_set dead d w) }) waits
+    ∙ ap (λ (xs : List Frame). record { top = f; below = w ∷ xs }) below
+    ∙ ap (λ (x : Stacked). record { top = f; below = w ∷ x.below }) e
+
+-- a dead frame is not seen
+pub unseen : (d : ℕ) (fs : List Frame) (f : Frame) → stacked (slice_set fs (d + 1) f) d ≡ stacked fs d
+unseen d fs f =
+    let differs : d ≢ d + 1 = λ is. omega arith in
+    ap (λ (x : Frame). record { top = x; below = under d (slice_set fs (d + 1) f) }) (get_or-set_other fs (d + 1) d f (fresh value.Nil) differs) ∙ ap (λ (xs : List Frame). record { top = frame_at fs d; below = xs }) (under_set d (d + 1) fs f (omega arith))

@@ -4,4 +4,5 @@ pub mod Lends
 pub mod Views
 pub mod Runs
 pub mod Follows
+pub mod Passes
 pub mod Quick

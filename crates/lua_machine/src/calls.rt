@@ -18,7 +18,8 @@ use std::alloc::Global;
 use std::collections::VecDeque;
 
 /// How many slots a frame has: at least those that a short operand can name.
-fn room(shape: Shape) -> usize
+#[inline(always)]
+pub fn room(shape: Shape) -> usize
     ensures { result ≡ room shape }
 {
     if shape.slots < 256 {

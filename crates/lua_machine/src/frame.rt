@@ -1,9 +1,11 @@
-ghost use Rattle.std.specs.Prelude.{◌≡◌, [], ◌∷◌, ◌<◌};
+ghost use Rattle.std.specs.Prelude.{◌≡◌, [], ◌∷◌, ◌<◌, OnOk};
 ghost use Rattle.lua_steps.specs.Moves.{at_next};
 ghost use Rattle.lua_steps.specs.Calls.{waiting};
 ghost use Rattle.lua_machine.specs.Wants.{wanted_of};
+ghost use Rattle.lua_machine.specs.Stack.{plain};
 
 use lua_value::Values;
+use sk_types::NoMemory;
 use std::collections::VecDeque;
 use std::marker::Model;
 
@@ -73,5 +75,31 @@ impl Frame {
     {
         self.advance();
         self.wants = wants;
+    }
+}
+
+impl Frame {
+    /// A dead frame serves the call of a closure over these cells, whose function has so many cells of its own, and no `...`.
+    #[inline(always)]
+    pub fn reopen(
+        &mut self,
+        function: u64,
+        ups: &[u64],
+        cells: u16,
+        base: u32,
+    ) -> Result<(), NoMemory>
+        ensures { OnOk result (self.new ≡ plain (record { function = function; cells = ups.now }) cells base) }
+    {
+        self.function = function;
+        self.at = 0;
+        self.base = base;
+        self.cells.clear();
+        self.cells.resize(cells as usize, 0)?;
+        self.ups.clear();
+        self.ups.extend_from_slice(ups)?;
+        self.dots.clear();
+        self.lists.clear();
+        self.wants = Wanted::OnTop;
+        Ok(())
     }
 }

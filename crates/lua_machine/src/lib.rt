@@ -8,6 +8,7 @@ mod lists;
 mod loops;
 mod machine;
 mod pace;
+mod pass;
 mod perform;
 mod quick;
 mod run;

@@ -17,7 +17,8 @@ use lua_value::Values;
 use sk_types::NoMemory;
 
 /// The operation at a place of a function.
-fn fetch(code: &[Function], function: u64, at: usize) -> Option<Op>
+#[inline(always)]
+pub fn fetch(code: &[Function], function: u64, at: usize) -> Option<Op>
     ensures value { result ≡ op_at code.now function at }
     ensures within { OnSome result (at < usize.MAX) }
 {
@@ -90,6 +91,9 @@ impl State {
         self.receive(values)?;
         'operations: loop {
             self.hurry(code);
+            if self.pass(code) {
+                continue;
+            }
             match self.step(code)? {
                 Went::On => {}
                 Went::Off(stop) => return Ok(stop),

@@ -1,9 +1,11 @@
 ghost use Rattle.std.specs.Prelude.{◌≡◌, [], ◌∷◌, ◌<◌, IfOk, OnOk, slice_get, option_copied};
 ghost use Rattle.std.specs.Borrow.{sem};
 ghost use Rattle.lua_machine.specs.Lends.{LendsTop};
-ghost use Rattle.lua_machine.specs.Stack.{Left};
+ghost use Rattle.lua_machine.specs.Stack.{plain, Left, Reentered};
+ghost use Rattle.lua_machine.specs.Wants.{wanted_of};
 
-use crate::frame::Frame;
+use crate::frame::{Frame, Wanted};
+use lua_heap::Closure;
 use sk_types::NoMemory;
 use std::alloc::Global;
 use std::marker::Model;
@@ -87,6 +89,26 @@ impl CallStack {
             return false;
         }
         self.depth -= 1;
+        true
+    }
+
+    /// A call of a closure begins in the dead frame after the one that runs, where there is one. The one that ran waits for its values.
+    #[inline(always)]
+    pub fn reenter(&mut self, wants: Wanted, closure: &Closure, cells: u16, base: u32) -> bool
+        requires { self.old.top.at < usize.MAX }
+        ensures { Reentered result (wanted_of wants) (plain closure.now cells base) self.old self.new }
+    {
+        let next = self.depth + 1;
+        if self.frames.len() <= next {
+            return false;
+        }
+        let dead = &mut self.frames[next];
+        let Ok(()) = dead.reopen(closure.function(), closure.cells(), cells, base) else {
+            return false;
+        };
+        let top = &mut self.frames[self.depth];
+        top.wait(wants);
+        self.depth = next;
         true
     }
 }

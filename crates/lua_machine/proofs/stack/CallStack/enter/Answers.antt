@@ -1,6 +1,4 @@
-use Rattle.std.proofs.Common.{◌≡◌, ℕ, ◌+◌, ◌<◌, List, [], ◌∷◌, ◌++◌, length, refl, sym, ap, ◌∙◌, subst, arith}
-use Rattle.lua_steps.specs.Machine as steps
-use Rattle.lua_machine.specs.Stack.{Stacked, stacked}
+use Rattle.std.proofs.Common.{arith}
 use Rattle.lua_machine.proofs.StackLemmas.{entered_set, entered_push}
 use Rattle.lua_machine.proofs.stack.CallStack.enter.Goals as goal
 

@@ -1,6 +1,5 @@
-use Rattle.std.proofs.Common.{ℕ, ◌<◌, List, length, refl, sym, ap, ◌∙◌, subst}
-use Rattle.lua_steps.specs.Machine as steps
-use Rattle.lua_machine.specs.Stack.{Stacked, under}
+use Rattle.std.proofs.Common.{ℕ, ◌<◌, length, refl, ap, ◌∙◌, subst}
+use Rattle.lua_machine.specs.Stack.{Stacked}
 use Rattle.lua_machine.proofs.StackLemmas.{stacked_set, at_any}
 use Rattle.lua_machine.proofs.stack.CallStack.top_mut.Goals as goal
 
