@@ -55,6 +55,7 @@ Fits code f at (op.Sub to left right) = Slots f to 1 × Slots f left 1 × Slots 
 Fits code f at (op.Mul to left right) = Slots f to 1 × Slots f left 1 × Slots f right 1 × GoesOn f at
 Fits code f at (op.AddInt to left value) = Slots f to 1 × Slots f left 1 × GoesOn f at
 Fits code f at (op.MulInt to left value) = Slots f to 1 × Slots f left 1 × GoesOn f at
+Fits code f at (op.BinaryInt sign to left value) = Slots f to 1 × Slots f left 1 × GoesOn f at
 Fits code f at (op.Binary sign to left right) = Slots f to 1 × Slots f left 1 × Slots f right 1 × GoesOn f at
 Fits code f at (op.Unary sign to from) = Slots f to 1 × Slots f from 1 × GoesOn f at
 Fits code f at (op.Tick pay) = GoesOn f at

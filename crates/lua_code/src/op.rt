@@ -82,6 +82,13 @@ pub enum Op {
         left: u8,
         value: i32,
     },
+    /// Any operator with an integer as its right operand.
+    BinaryInt {
+        op: Binary,
+        to: u8,
+        left: u8,
+        value: i32,
+    },
     Binary {
         op: Binary,
         to: u16,

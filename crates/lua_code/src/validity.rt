@@ -36,6 +36,7 @@ fn fits(code: &[Function], f: &Function, at: usize, op: Op) -> bool
         Op::Mul { to, left, right } => three(f, at, to as u16, left as u16, right as u16),
         Op::AddInt { to, left, .. } => two(f, at, to as u16, left as u16),
         Op::MulInt { to, left, .. } => two(f, at, to as u16, left as u16),
+        Op::BinaryInt { to, left, .. } => two(f, at, to as u16, left as u16),
         Op::Binary {
             to,
             left,

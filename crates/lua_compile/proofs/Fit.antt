@@ -67,6 +67,7 @@ fits_of code r L k (op.Sub to p q) a s c g = (two_left _ (to + 1) _ s, two_left 
 fits_of code r L k (op.Mul to p q) a s c g = (two_left _ (to + 1) _ s, two_left _ (p + 1) (q + 1) (two_right _ (to + 1) _ s), two_right _ (p + 1) (q + 1) (two_right _ (to + 1) _ s), g)
 fits_of code r L k (op.AddInt to p n) a s c g = (two_left _ (to + 1) (p + 1) s, two_right _ (to + 1) (p + 1) s, g)
 fits_of code r L k (op.MulInt to p n) a s c g = (two_left _ (to + 1) (p + 1) s, two_right _ (to + 1) (p + 1) s, g)
+fits_of code r L k (op.BinaryInt o to p n) a s c g = (two_left _ (to + 1) (p + 1) s, two_right _ (to + 1) (p + 1) s, g)
 fits_of code r L k (op.Binary o to p q) a s c g = (two_left _ (to + 1) _ s, two_left _ (p + 1) (q + 1) (two_right _ (to + 1) _ s), two_right _ (p + 1) (q + 1) (two_right _ (to + 1) _ s), g)
 fits_of code r L k (op.Unary o to p) a s c g = (two_left _ (to + 1) (p + 1) s, two_right _ (to + 1) (p + 1) s, g)
 fits_of code r L k (op.Tick pay) a s c g = g

@@ -210,15 +210,15 @@ module _ (code : Code) (f : ℕ) (r : Routine) (L : List ℕ) where
   g_two n true o s x y line w lv fin g = g_emit n (or_else (short_op o s x y) (op.Binary o s x y)) line w lv fin (short_asks o s x y w.at) g
   g_two n false o s x y line w lv fin g = g_emit n (op.Binary o s x y) line w lv fin tt g
 
-  g_int_op : (n : ℕ) (o : Binary) (s x : ℕ) (m : ℤ) (line : ℕ) (w : Writer) → Level w → F n (some_written (int_op o s x m) line w) → G w → G (some_written (int_op o s x m) line w)
-  g_int_op n binary.Add s x m line w lv fin g = g_emit n _ line w lv fin tt g
-  g_int_op n binary.Sub s x m line w lv fin g = g_emit n _ line w lv fin tt g
-  g_int_op n binary.Mul s x m line w lv fin g = g_emit n _ line w lv fin tt g
-  g_int_op n o s x m line w lv fin g = g_same w (lost_if true w) refl refl g
+  int_asks : (o : Binary) (s x : ℕ) (m : ℤ) (k : ℕ) → Asks code r L k (int_op o s x m)
+  int_asks binary.Add s x m k = tt
+  int_asks binary.Sub s x m k = tt
+  int_asks binary.Mul s x m k = tt
+  int_asks o s x m k = tt
 
   pub g_binary : (n : ℕ) (o : Binary) (s : ℕ) (p q : Operand) (line : ℕ) (w : Writer) → Level w → F n (binary_written o s p q line w) → G w → G (binary_written o s p q line w)
   g_binary n o s (Slot x) (Slot y) line w lv fin g = g_two n _ o s x y line w lv fin g
-  g_binary n o s (Slot x) (Held m) line w lv fin g = g_int_op n o s x m line w lv fin g
+  g_binary n o s (Slot x) (Held m) line w lv fin g = g_emit n (int_op o s x m) line w lv fin (int_asks o s x m w.at) g
   g_binary n o s (Held m) q line w lv fin g = g_same w (lost_if true w) refl refl g
 
   g_tests : (n : ℕ) (o : Binary) (p q : Operand) (l line : ℕ) (w : Writer) → Level w → F n (some_written (test_op o (shown_of p) (shown_of q) 0 l) line w) → Ahead r L l (some_written (test_op o (shown_of p) (shown_of q) 0 l) line w).at → G w

@@ -162,8 +162,8 @@ module _ (code : Code) where
         let go = λ (u : Binary).
         operands_written os sc d aim (Slot (so_far os aim d))
         (if tests u os aim p d
-        then test_written u p (shown e sc.names (d + 1) (Anywhere (room_for (tests u os aim p d) u p (so_far os aim d)))) aim line (exp_written e sc (d + 1) (Anywhere (room_for (tests u os aim p d) u p (so_far os aim d))) w)
-        else last_settled os aim d (so_far os aim d) (binary_written u (so_far os aim d) p (shown e sc.names (d + 1) (Anywhere (room_for (tests u os aim p d) u p (so_far os aim d)))) line (exp_written e sc (d + 1) (Anywhere (room_for (tests u os aim p d) u p (so_far os aim d))) w))) in
+        then test_written u p (shown e sc.names (d + 1) (Anywhere (room_for (tests u os aim p d) p (so_far os aim d)))) aim line (exp_written e sc (d + 1) (Anywhere (room_for (tests u os aim p d) p (so_far os aim d))) w)
+        else last_settled os aim d (so_far os aim d) (binary_written u (so_far os aim d) p (shown e sc.names (d + 1) (Anywhere (room_for (tests u os aim p d) p (so_far os aim d)))) line (exp_written e sc (d + 1) (Anywhere (room_for (tests u os aim p d) p (so_far os aim d))) w))) in
         fit_link (λ t. Fin code f r L n t × Aimed r L aim t.at) (λ t. Good code r L t) (link_of o) A B go (fin, a)
         (λ h.
         let k4 = k_last a3 a3 os aim d d (kept_self 0 a3) in
@@ -195,7 +195,7 @@ module _ (code : Code) where
         operands_fits os f r L sc d aim (Slot d) b4 n (omega (arith, le, long, kb2.more, set_long l b2, k4.more)) (k4.level l3) h.0 h.1 sees g4)
         (λ u h.
         let i = so_far os aim d in
-        let room = Anywhere (room_for (tests u os aim p d) u p i) in
+        let room = Anywhere (room_for (tests u os aim p d) p i) in
         let v = exp_written e sc (d + 1) room w in
         let kv = exp_kept e sc (d + 1) room w in
         let q = shown e sc.names (d + 1) room in

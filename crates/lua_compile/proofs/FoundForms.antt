@@ -17,7 +17,7 @@ use Rattle.lua_steps.specs.declared.scope.Place.{Place}
 use Rattle.lua_steps.specs.declared.scope.Place.TheVariants.{InSlot, InCell, InUp, Hidden}
 use Rattle.lua_steps.specs.declared.scope.Known.{Known}
 use Rattle.lua_steps.specs.Scope.{Scope, place_of, in_slot, in_cell, past}
-use Rattle.lua_steps.specs.Stand.{Write, Origin, FromSlot, FromItem, int_op, test_op, from_slots, from_items}
+use Rattle.lua_steps.specs.Stand.{Write, Origin, FromSlot, FromItem, test_op, from_slots, from_items}
 use Rattle.lua_compile.specs.declared.aim.Aim.{Aim}
 use Rattle.lua_compile.specs.declared.aim.Aim.TheVariants.{Into, Anywhere, Unless}
 use Rattle.lua_compile.specs.declared.aim.Room.{Room}
@@ -28,7 +28,7 @@ use Rattle.lua_compile.specs.declared.aim.Want.{Want}
 use Rattle.lua_compile.specs.declared.aim.Want.TheVariants as want
 use Rattle.lua_compile.specs.HasCode.{in_scope, with_names, AreLocals}
 use Rattle.lua_compile.specs.Writer.{Writer, put, lost_if, flag, known, all_known, declare, declare_all, up_from, after_up, seen_inside}
-use Rattle.lua_compile.specs.Forms.{register, is_unless, settled, differ, has_room, int_written, int_shown, int_aimed, true_written, name_shown, name_written, stored, from, stores_written, nils_written, shown, shown_of, on_slot, is_slot, is_short, some_written, binary_written, is_arithmetic, is_comparison, no_more, room_for, test_written, unary_slot, so_far, last_settled, linked, link_aim, is_strict, all_strict, only_shown, called, called_list, wanted_written, where_none, prepay, ticked, ticked_more, paid_before, ticked_twice, is_direct, only_direct, with_targets, directly, jumped, where_else, function_known, numeric_written, generic_written}
+use Rattle.lua_compile.specs.Forms.{register, is_unless, settled, differ, has_room, int_written, int_shown, int_aimed, true_written, name_shown, name_written, stored, from, stores_written, nils_written, shown, shown_of, on_slot, is_slot, is_short, some_written, binary_written, is_comparison, no_more, test_written, unary_slot, so_far, last_settled, linked, link_aim, is_strict, all_strict, only_shown, called, called_list, wanted_written, where_none, prepay, ticked, ticked_more, paid_before, ticked_twice, is_direct, only_direct, with_targets, directly, jumped, where_else, function_known, numeric_written, generic_written}
 use Rattle.lua_compile.proofs.Final.{and_left, and_right}
 
 -- nothing was lost, and each local goes to a cell
@@ -358,52 +358,10 @@ s_last NoOperand aim d r w e g = s_settled aim r _ (s_lost_if (differ (register 
 s_last (MoreOperands o line e os) aim d r w h g = g
 
 -- ---- operators
--- an integer stays in an operation that takes it
-abbrev pub Takes : Binary → Operand → Type 0
-Takes u (Slot r) = Unit {0}
-Takes u (Held n) = is_arithmetic u ≡ true
-
-abbrev pub RoomFits : Room → Binary → Type 0
-RoomFits Nothing u = Unit {0}
-RoomFits Byte u = is_arithmetic u ≡ true
-RoomFits Word u = is_arithmetic u ≡ true
-
-pub room_fits : (u : Binary) (p : Operand) (r : ℕ) → RoomFits (room_for false u p r) u
-room_fits u p r = go (is_arithmetic u && is_short p && ltb r 256) refl
-  where
-    go : (b : Bool) → (is_arithmetic u && is_short p && ltb r 256) ≡ b → RoomFits (if b then Word else Nothing) u
-    go true e = and_left (is_arithmetic u) (is_short p) (and_left (is_arithmetic u && is_short p) (ltb r 256) e)
-    go false e = tt
-
-takes_if : (b : Bool) (n : ℤ) (d : ℕ) (u : Binary) → is_arithmetic u ≡ true → Takes u (if b then Held n else Slot d)
-takes_if true n d u h = h
-takes_if false n d u h = tt
-
-takes_int : (n : ℤ) (d : ℕ) (room : Room) (u : Binary) → RoomFits room u → Takes u (int_shown n d (Anywhere room))
-takes_int n d Nothing u h = tt
-takes_int n d Byte u h = takes_if (has_room Byte n) n d u h
-takes_int n d Word u h = takes_if (has_room Word n) n d u h
-
-slot_taken : (u : Binary) (p : Operand) → InASlot p → Takes u p
-slot_taken u (Slot r) h = tt
-slot_taken u (Held n) h = absurd h
-
-pub taken : (e : Exp) (ks : List Known) (d : ℕ) (room : Room) (u : Binary) → RoomFits room u → Takes u (shown e ks d (Anywhere room))
-taken (source.Int n) ks d room u h = takes_int n d room u h
-taken (source.Name x) ks d room u h = slot_taken u _ (name_in_slot (place_of ks x) d room)
-taken (source.Paren e) ks d room u h = taken e ks d room u h
-taken e ks d room u h = tt
-
-s_int_op : (u : Binary) (r x : ℕ) (n : ℤ) (line : ℕ) (w : Writer) → is_arithmetic u ≡ true → Sound w → Sound (some_written (int_op u r x n) line w)
-s_int_op binary.Add r x n line w h g = g
-s_int_op binary.Sub r x n line w h g = g
-s_int_op binary.Mul r x n line w h g = g
-s_int_op u r x n line w h g = absurd (cc)
-
-pub s_binary : (u : Binary) (r : ℕ) (p q : Operand) (line : ℕ) (w : Writer) → InASlot p → Takes u q → Sound w → Sound (binary_written u r p q line w)
-s_binary u r (Slot x) (Slot y) line w h t g = s_if (ltb r 256 && ltb x 256 && ltb y 256) _ _ g g
-s_binary u r (Slot x) (Held n) line w h t g = s_int_op u r x n line w t g
-s_binary u r (Held n) q line w h t g = absurd h
+pub s_binary : (u : Binary) (r : ℕ) (p q : Operand) (line : ℕ) (w : Writer) → InASlot p → Sound w → Sound (binary_written u r p q line w)
+s_binary u r (Slot x) (Slot y) line w h g = s_if (ltb r 256 && ltb x 256 && ltb y 256) _ _ g g
+s_binary u r (Slot x) (Held n) line w h g = g
+s_binary u r (Held n) q line w h g = absurd h
 
 s_compare : (u : Binary) (x : ℕ) (q : Operand) (l line : ℕ) (w : Writer) → is_comparison u ≡ true → Sound w → Sound (some_written (test_op u (shown_of (Slot x)) (shown_of q) 0 l) line w)
 s_compare binary.Less x (Slot y) l line w h g = g

@@ -24,7 +24,7 @@ use Rattle.lua_compile.specs.Writer.{Writer, put, labelled, label_of, placed_her
 use Rattle.lua_compile.specs.Forms.{register, is_unless, differ, int_written, nils_written, shown, on_slot, is_slot, is_comparison, is_short, binary_written, tests, room_for, test_written, unary_slot, so_far, last_settled, base_aim, is_strict, all_and, no_more, is_many, count, slots_fit, targets_fit, is_only, is_tail, only_shown, suffix_want, called, called_list, where_none, prepay, ticked, ticked_more, paid_before, ticked_twice, only_direct, only_slot, directly, where_else, function_known, stores_written}
 use Rattle.lua_compile.specs.Written.{exp_written, ands_written, operands_written, suffixes_written, fixed_written, values_written, many_written, list_written, all_written, tail_written, only_written, body_written, block_written, block_known, stats_written, stats_known, stat_written, stat_known, else_written, opening, chunk_written}
 use Rattle.lua_compile.proofs.Final.{and_left, and_right}
-use Rattle.lua_compile.proofs.FoundForms.{Sound, no_difference, s_lost_if, s_if, s_test, Sees, place_found, sees_inside, all_seen, function_seen, s_declare_all, s_settled, s_int, s_aimed, s_true, s_name, s_stores, slots_seen, items_seen, targets_seen, s_targets, s_directly, s_nils, InASlot, in_a_slot, only_in_a_slot, s_on, AimFits, unless_fits, paren_fits, call_fits, ChainFits, chain_fits, chain_rest, chain_free, link_fits, BeginsBy, base_begins, slot_begins, is_there, s_link, so_far_ends, free_ends, s_last, room_fits, taken, s_binary, s_test_written, s_unary, s_called, s_called_list, s_none, PaidFor, PaidIn, prepaid, unpaid, unpaid_for, still_paid, s_ticked, s_ticked_more, s_ticked_twice, MayLeave, s_jumped, s_where_else, OnlyFits, direct_fits, anywhere_fits, s_numeric, s_generic}
+use Rattle.lua_compile.proofs.FoundForms.{Sound, no_difference, s_lost_if, s_if, s_test, Sees, place_found, sees_inside, all_seen, function_seen, s_declare_all, s_settled, s_int, s_aimed, s_true, s_name, s_stores, slots_seen, items_seen, targets_seen, s_targets, s_directly, s_nils, InASlot, in_a_slot, only_in_a_slot, s_on, AimFits, unless_fits, paren_fits, call_fits, ChainFits, chain_fits, chain_rest, chain_free, link_fits, BeginsBy, base_begins, slot_begins, is_there, s_link, so_far_ends, free_ends, s_last, s_binary, s_test_written, s_unary, s_called, s_called_list, s_none, PaidFor, PaidIn, prepaid, unpaid, unpaid_for, still_paid, s_ticked, s_ticked_more, s_ticked_twice, MayLeave, s_jumped, s_where_else, OnlyFits, direct_fits, anywhere_fits, s_numeric, s_generic}
 
 -- the value so far is where the next operator of the chain takes it
 abbrev pub StartsAt : Operands → Operand → ℕ → Type 0
@@ -50,8 +50,8 @@ so_far_starts (MoreOperands o line e os) aim d = slot_begins (link_of o) d
 -- an operator of two values: a comparison that jumps by itself, or any other
 s_strict : (t : Bool) (u : Binary) (e : Exp) (ks : List Known) (os : Operands) (aim : Aim) (p : Operand) (d line : ℕ) (made : Room → Writer) → tests u os aim p d ≡ t → InASlot p
     → ((room : Room) → Sound (made room))
-    → Sound (if t then test_written u p (shown e ks (d + 1) (Anywhere (room_for t u p (so_far os aim d)))) aim line (made (room_for t u p (so_far os aim d)))
-    else last_settled os aim d (so_far os aim d) (binary_written u (so_far os aim d) p (shown e ks (d + 1) (Anywhere (room_for t u p (so_far os aim d)))) line (made (room_for t u p (so_far os aim d)))))
+    → Sound (if t then test_written u p (shown e ks (d + 1) (Anywhere (room_for t p (so_far os aim d)))) aim line (made (room_for t p (so_far os aim d)))
+    else last_settled os aim d (so_far os aim d) (binary_written u (so_far os aim d) p (shown e ks (d + 1) (Anywhere (room_for t p (so_far os aim d)))) line (made (room_for t p (so_far os aim d)))))
 s_strict true u e ks os aim p d line made h s f =
     let short = is_comparison u && no_more os && is_unless aim && is_short p in
     let jumps = and_left (is_comparison u && no_more os && is_unless aim) (is_short p) (and_left short (ltb d 255) h) in
@@ -60,9 +60,9 @@ s_strict true u e ks os aim p d line made h s f =
     s_test_written u p (shown e ks (d + 1) (Anywhere Byte)) aim line (made Byte) c q s (f Byte)
 s_strict false u e ks os aim p d line made h s f =
     let r = so_far os aim d in
-    let room = room_for false u p r in
+    let room = room_for false p r in
     let q = shown e ks (d + 1) (Anywhere room) in
-    s_last os aim d r (binary_written u r p q line (made room)) (so_far_ends os aim d) (s_binary u r p q line (made room) s (taken e ks (d + 1) room u (room_fits u p r)) (f room))
+    s_last os aim d r (binary_written u r p q line (made room)) (so_far_ends os aim d) (s_binary u r p q line (made room) s (f room))
 
 s_body : (xs : List Text) (dots : Bool) (p : Block) (ks : List Known) (ns : List Text) (w : Writer) → Sees ks ns → Sound w
     → ((sc : Scope) (v : Writer) → Sees sc.names (with_names xs ns) → Sound v → Sound (block_written p sc (prepay p) None v)) → Sound (body_written (body xs dots p) ks w)
@@ -123,7 +123,7 @@ mutual
       let made = λ (room : Room). exp_written e sc (d + 1) (Anywhere room) w in
       let strict = λ (u : Binary). (
       let t = tests u os aim p d in
-      let room = room_for t u p r in
+      let room = room_for t p r in
       let q = shown e sc.names (d + 1) (Anywhere room) in
       if t then test_written u p q aim line (made room) else last_settled os aim d r (binary_written u r p q line (made room))) in
       let decided = λ (x : Writer) (k : Sound x) (f : is_strict (link_of o) ≡ false).

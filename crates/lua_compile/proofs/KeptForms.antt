@@ -194,7 +194,7 @@ pub k_binary : (w v : Writer) (o : Binary) (r : ℕ) (p q : Operand) (line : ℕ
 k_binary w v o r (Slot x) (Slot y) line a =
     k_if w (emit (or_else (short_op o r x y) (op.Binary o r x y)) line v) (emit (op.Binary o r x y) line v) (ltb r 256 && ltb x 256 && ltb y 256)
     (k_emit w v (or_else (short_op o r x y) (op.Binary o r x y)) line a) (k_emit w v (op.Binary o r x y) line a)
-k_binary w v o r (Slot x) (Held n) line a = k_some w v (int_op o r x n) line a
+k_binary w v o r (Slot x) (Held n) line a = k_emit w v (int_op o r x n) line a
 k_binary w v o r (Held n) q line a = k_lost w v true a
 
 pub k_test : (w v : Writer) (o : Binary) (p q : Operand) (aim : Aim) (line : ℕ) → K w v → K w (test_written o p q aim line v)

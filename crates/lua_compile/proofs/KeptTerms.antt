@@ -119,7 +119,7 @@ mutual
       (λ u.
       let r = so_far os aim d in
       let t = tests u os aim p d in
-      let room = Anywhere (room_for t u p r) in
+      let room = Anywhere (room_for t p r) in
       let v = exp_written e sc (d + 1) room w in
       let q = shown e sc.names (d + 1) room in
       operands_written os sc d aim (Slot r) (if t then test_written u p q aim line v else last_settled os aim d r (binary_written u r p q line v)))
@@ -128,7 +128,7 @@ mutual
       (λ u.
       let r = so_far os aim d in
       let t = tests u os aim p d in
-      let room = Anywhere (room_for t u p r) in
+      let room = Anywhere (room_for t p r) in
       let v = exp_written e sc (d + 1) room w in
       let q = shown e sc.names (d + 1) room in
       let x = if t then test_written u p q aim line v else last_settled os aim d r (binary_written u r p q line v) in

@@ -119,16 +119,16 @@ module _ (code : Code) (f : ℕ) (L : List ℕ) where
   two_stands n true o r x y line w lv fin = (short_stands n o r x y line w lv fin, refl)
   two_stands n false o r x y line w lv fin = (inl (at_line code f L n (op.Binary o r x y) line w lv fin), refl)
 
-  int_there : (n : ℕ) (o : Binary) (r x : ℕ) (m : ℤ) (line : ℕ) (w : Writer) → Level w → Final code f L n (some_written (int_op o r x m) line w) → AtSome code f w.at (int_op o r x m) line
+  int_there : (n : ℕ) (o : Binary) (r x : ℕ) (m : ℤ) (line : ℕ) (w : Writer) → Level w → Final code f L n (emit (int_op o r x m) line w) → AtLine code f w.at (int_op o r x m) line
   int_there n binary.Add r x m line w lv fin = at_line code f L n _ line w lv fin
   int_there n binary.Sub r x m line w lv fin = at_line code f L n _ line w lv fin
   int_there n binary.Mul r x m line w lv fin = at_line code f L n _ line w lv fin
-  int_there n o r x m line w lv fin = never_lost code f L n w fin
+  int_there n o r x m line w lv fin = at_line code f L n _ line w lv fin
 
   pub binary_stands : (n : ℕ) (o : Binary) (r : ℕ) (p q : Operand) (line : ℕ) (w : Writer) → Level w → Final code f L n (binary_written o r p q line w)
       → IsBinary code f w.at o r (shown_of p) (shown_of q) line × ((binary_written o r p q line w).at ≡ w.at + 1)
   binary_stands n o r (Slot x) (Slot y) line w lv fin = two_stands n (ltb r 256 && ltb x 256 && ltb y 256) o r x y line w lv fin
-  binary_stands n o r (Slot x) (Held m) line w lv fin = (int_there n o r x m line w lv fin, (some_stands n (int_op o r x m) line w lv fin).3)
+  binary_stands n o r (Slot x) (Held m) line w lv fin = (int_there n o r x m line w lv fin, refl)
   binary_stands n o r (Held m) q line w lv fin = absurd (never_lost code f L n w fin)
 
   test_there : (n : ℕ) (o : Binary) (p q : Operand) (l line : ℕ) (w : Writer) → Level w → Final code f L n (some_written (test_op o (shown_of p) (shown_of q) 0 l) line w)

@@ -182,8 +182,8 @@ module _ (code : Code) where
         let go = λ (u : _).
         operands_written os sc d aim (Slot (so_far os aim d))
         (if tests u os aim p d
-        then test_written u p (shown e sc.names (d + 1) (Anywhere (room_for (tests u os aim p d) u p (so_far os aim d)))) aim line (exp_written e sc (d + 1) (Anywhere (room_for (tests u os aim p d) u p (so_far os aim d))) w)
-        else last_settled os aim d (so_far os aim d) (binary_written u (so_far os aim d) p (shown e sc.names (d + 1) (Anywhere (room_for (tests u os aim p d) u p (so_far os aim d)))) line (exp_written e sc (d + 1) (Anywhere (room_for (tests u os aim p d) u p (so_far os aim d))) w))) in
+        then test_written u p (shown e sc.names (d + 1) (Anywhere (room_for (tests u os aim p d) p (so_far os aim d)))) aim line (exp_written e sc (d + 1) (Anywhere (room_for (tests u os aim p d) p (so_far os aim d))) w)
+        else last_settled os aim d (so_far os aim d) (binary_written u (so_far os aim d) p (shown e sc.names (d + 1) (Anywhere (room_for (tests u os aim p d) p (so_far os aim d)))) line (exp_written e sc (d + 1) (Anywhere (room_for (tests u os aim p d) p (so_far os aim d))) w))) in
         by_link (λ v. Final code f L n v × Given code f L aim (Slot (register aim d)) R v.at) (link_of o) A B go _ _ _ (fin, g)
         (λ h.
         let k4 = on a3 a4 A (k_last a3 a3 os aim d d (kept_self 0 a3)) (operands_kept os sc d aim (Slot d) a4) in
@@ -215,7 +215,7 @@ module _ (code : Code) where
         (refl, inr (place L l, at_op code f L (l + 1) (op.TestNot d l) 0 s ls fin1, first, subst (λ b. S b (Reg d)) (sym here) rest))))
         (λ u h.
         let r = so_far os aim d in
-        let room = Anywhere (room_for (tests u os aim p d) u p r) in
+        let room = Anywhere (room_for (tests u os aim p d) p r) in
         let v = exp_written e sc (d + 1) room w in
         let kv = exp_kept e sc (d + 1) room w in
         let q = shown e sc.names (d + 1) room in

@@ -145,14 +145,8 @@ or_else (Some p) o = p
 abbrev pub binary_written : Binary → ℕ → Operand → Operand → ℕ → Writer → Writer
 binary_written o r (Slot x) (Slot y) line w =
     if ltb r 256 && ltb x 256 && ltb y 256 then emit (or_else (short_op o r x y) (op.Binary o r x y)) line w else emit (op.Binary o r x y) line w
-binary_written o r (Slot x) (Constant n) line w = some_written (int_op o r x n) line w
+binary_written o r (Slot x) (Constant n) line w = emit (int_op o r x n) line w
 binary_written o r (Constant n) q line w = lost_if true w
-
-abbrev pub is_arithmetic : Binary → Bool
-is_arithmetic binary.Add = true
-is_arithmetic binary.Sub = true
-is_arithmetic binary.Mul = true
-is_arithmetic o = false
 
 abbrev pub is_comparison : Binary → Bool
 is_comparison binary.Equal = true
@@ -171,9 +165,10 @@ no_more (MoreOperands o line e os) = false
 abbrev pub tests : Binary → Operands → Aim → Operand → ℕ → Bool
 tests o os aim p d = is_comparison o && no_more os && is_unless aim && is_short p && ltb d 255
 
-abbrev pub room_for : Bool → Binary → Operand → ℕ → Room
-room_for true o p r = Byte
-room_for false o p r = if is_arithmetic o && is_short p && ltb r 256 then Word else Nothing
+-- which integers may stay in the operation as its right operand
+abbrev pub room_for : Bool → Operand → ℕ → Room
+room_for true p r = Byte
+room_for false p r = if is_short p && ltb r 256 then Word else Nothing
 
 abbrev pub test_written : Binary → Operand → Operand → Aim → ℕ → Writer → Writer
 test_written o p q (Unless l) line w = some_written (test_op o (shown_of p) (shown_of q) 0 l) line w

@@ -49,6 +49,7 @@ reach (op.Sub to p q) = max (to + 1) (max (p + 1) (q + 1))
 reach (op.Mul to p q) = max (to + 1) (max (p + 1) (q + 1))
 reach (op.AddInt to p n) = max (to + 1) (p + 1)
 reach (op.MulInt to p n) = max (to + 1) (p + 1)
+reach (op.BinaryInt o to p n) = max (to + 1) (p + 1)
 reach (op.Binary o to p q) = max (to + 1) (max (p + 1) (q + 1))
 reach (op.Unary o to p) = max (to + 1) (p + 1)
 reach (op.Tick pay) = 0

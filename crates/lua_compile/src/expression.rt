@@ -186,7 +186,7 @@ fn write_operation(
         Link::Strict(op) => {
             let to = so_far(rest, aim, d);
             let tested = is_test(op, rest, aim, left, d);
-            let room = Aim::Anywhere(room_for(tested, op, left, to));
+            let room = Aim::Anywhere(room_for(tested, left, to));
             let next = slot_after(d, 1)?;
             write_exp(w, scope, &operation.value, next, room)?;
             let right = shown(&operation.value, scope, next, room);

@@ -4,7 +4,7 @@ ghost use Rattle.std.specs.Prelude.{◌≡◌, ◌&&◌, ltb, map, if◌then◌e
 ghost use Rattle.lua_tree.specs.View.{operand_of, operands_of};
 ghost use Rattle.lua_meaning.specs.Values.{link_of, unary_of};
 ghost use Rattle.lua_steps.specs.Stand.{Reg, Imm, short_op, int_op, test_op};
-ghost use Rattle.lua_compile.specs.Forms.{differ, is_unless, is_slot, is_short, on_slot, shown_of, some_written, or_else, binary_written, is_arithmetic, is_comparison, no_more, tests, room_for, test_written, unary_slot, so_far, last_settled, link_aim, base_aim, is_both, all_and};
+ghost use Rattle.lua_compile.specs.Forms.{differ, is_unless, is_slot, is_short, on_slot, shown_of, some_written, or_else, binary_written, is_comparison, no_more, tests, room_for, test_written, unary_slot, so_far, last_settled, link_aim, base_aim, is_both, all_and};
 ghost use Rattle.lua_compile.specs.Links.{link_in};
 
 use crate::aim::{Aim, Link, Operand, Room};
@@ -90,7 +90,7 @@ fn short_op(op: Binary, to: u8, left: u8, right: u8) -> Option<Op>
 }
 
 // With an integer as the right operand.
-fn int_op(op: Binary, to: u16, left: u16, n: i64) -> Result<Option<Op>, NoMemory>
+fn int_op(op: Binary, to: u16, left: u16, n: i64) -> Result<Op, NoMemory>
     ensures { IfOk result (λ o. o ≡ int_op op to left n) }
 {
     let to = short_of(to)?;
@@ -98,28 +98,25 @@ fn int_op(op: Binary, to: u16, left: u16, n: i64) -> Result<Option<Op>, NoMemory
     match op {
         Binary::Add => {
             let value = word_of(n)?;
-            Ok(Some(Op::AddInt { to, left, value }))
+            Ok(Op::AddInt { to, left, value })
         }
         Binary::Sub => {
             let value = negative_of(n)?;
-            Ok(Some(Op::AddInt { to, left, value }))
+            Ok(Op::AddInt { to, left, value })
         }
         Binary::Mul => {
             let value = word_of(n)?;
-            Ok(Some(Op::MulInt { to, left, value }))
+            Ok(Op::MulInt { to, left, value })
         }
-        _ => Ok(None),
-    }
-}
-
-fn is_arithmetic(op: Binary) -> bool
-    ensures { result ≡ is_arithmetic op }
-{
-    match op {
-        Binary::Add => true,
-        Binary::Sub => true,
-        Binary::Mul => true,
-        _ => false,
+        _ => {
+            let value = word_of(n)?;
+            Ok(Op::BinaryInt {
+                op,
+                to,
+                left,
+                value,
+            })
+        }
     }
 }
 
@@ -154,13 +151,13 @@ pub fn is_test(op: Binary, rest: &[Operation], aim: Aim, left: Operand, d: u16) 
 }
 
 /// Which integers may stay in the operator's operation as its right operand.
-pub fn room_for(tested: bool, op: Binary, left: Operand, to: u16) -> Room
-    ensures { result ≡ room_for tested op left to }
+pub fn room_for(tested: bool, left: Operand, to: u16) -> Room
+    ensures { result ≡ room_for tested left to }
 {
     if tested {
         return Room::Byte;
     }
-    if is_arithmetic(op) && is_short(left) && to < 256 {
+    if is_short(left) && to < 256 {
         Room::Word
     } else {
         Room::Nothing
@@ -462,7 +459,7 @@ impl<'a> Writer<'a> {
                 }
                 Operand::Constant(n) => {
                     let op = int_op(op, to, x, n)?;
-                    self.emit_some(op, line)
+                    self.emit(op, line)
                 }
             },
             Operand::Constant(_) => {

@@ -49,6 +49,7 @@ fn reach(op: Op) -> usize
         Op::Mul { to, left, right } => three(to as u16, left as u16, right as u16),
         Op::AddInt { to, left, .. } => two(to as u16, left as u16),
         Op::MulInt { to, left, .. } => two(to as u16, left as u16),
+        Op::BinaryInt { to, left, .. } => two(to as u16, left as u16),
         Op::Binary {
             to,
             left,

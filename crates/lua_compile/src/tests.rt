@@ -153,6 +153,12 @@ fn line(op: Op) -> Line {
             left,
             right,
         } => ("FloorDiv", to as i64, left as i64, right as i64),
+        Op::BinaryInt {
+            op: Binary::BitAnd,
+            to,
+            left,
+            value,
+        } => ("BitAndInt", to as i64, left as i64, value as i64),
         Op::Unary {
             op: Unary::Minus,
             to,
@@ -210,6 +216,34 @@ fn operators_are_written_inside_out(rt: HostRuntime) -> Result<(), Fail> {
     let code = compiled(rt.alloc(), quotient(rt.alloc())?)?;
     assert!(rt; valid(&code));
     assert!(rt; is_quotient(main_ops(&code)));
+    Ok(())
+}
+
+// local x = 9  return x & 7
+fn mask(alloc: Global) -> Result<Block, NoMemory> {
+    let value = binary(alloc, BinaryOp::BitAnd, name(alloc, b"x")?, Expr::Int(7))?;
+    let mut block = returning(alloc, value)?;
+    add_stat(&mut block, local(alloc, b"x", Expr::Int(9))?)?;
+    Ok(block)
+}
+
+fn is_mask(ops: &[Op]) -> bool {
+    are(
+        ops,
+        &[
+            ("Int", 0, 9, 0),
+            ("BitAndInt", 1, 0, 7),
+            ("Return", 1, 1, 0),
+            ("Return", 0, 0, 0),
+        ],
+    )
+}
+
+#[test]
+fn an_integer_is_the_right_operand_of_any_operator(rt: HostRuntime) -> Result<(), Fail> {
+    let code = compiled(rt.alloc(), mask(rt.alloc())?)?;
+    assert!(rt; valid(&code));
+    assert!(rt; is_mask(main_ops(&code)));
     Ok(())
 }
 

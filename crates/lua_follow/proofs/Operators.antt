@@ -98,7 +98,7 @@ module _ (code : Code) (m : Machine) where
       record { op = op.Mul r x y; answer = binary m.aside.heap.texts binary_op.Mul (slot m x) (slot m y); is = is; does = refl; same = two binary_op.Mul x y u v p q; fits = λ f w. w.0 }
   short_does o r x y u v at is p q = absurd is
 
-  int_does : (o : Binary) (r x : ℕ) (n : ℤ) (u v : Value) (at : ℕ) → AtSome code m.top.function m.top.at (int_op o r x n) at → Shows (view m.top) m.row (Reg x) u → v ≡ value.Int n → Answers code m o r u v at
+  int_does : (o : Binary) (r x : ℕ) (n : ℤ) (u v : Value) (at : ℕ) → AtLine code m.top.function m.top.at (int_op o r x n) at → Shows (view m.top) m.row (Reg x) u → v ≡ value.Int n → Answers code m o r u v at
   int_does binary_op.Add r x n u v at is p q =
       record { op = op.AddInt r x n; answer = binary m.aside.heap.texts binary_op.Add (slot m x) (value.Int n); is = is; does = refl; same = left_int binary_op.Add x n u v p q; fits = λ f w. w.0 }
   int_does binary_op.Sub r x n u v at is p q =
@@ -112,7 +112,8 @@ module _ (code : Code) (m : Machine) where
       }
   int_does binary_op.Mul r x n u v at is p q =
       record { op = op.MulInt r x n; answer = binary m.aside.heap.texts binary_op.Mul (slot m x) (value.Int n); is = is; does = refl; same = left_int binary_op.Mul x n u v p q; fits = λ f w. w.0 }
-  int_does o r x n u v at is p q = absurd is
+  int_does o r x n u v at is p q =
+      record { op = op.BinaryInt o r x n; answer = binary m.aside.heap.texts o (slot m x) (value.Int n); is = is; does = refl; same = left_int o x n u v p q; fits = λ f w. w.0 }
 
   left_does : (o : Binary) (r y : ℕ) (n : ℤ) (u v : Value) (at : ℕ) → AtSome code m.top.function m.top.at (left_int_op o r n y) at → u ≡ value.Int n → Shows (view m.top) m.row (Reg y) v → Answers code m o r u v at
   left_does binary_op.Add r y n u v at is p q =

@@ -348,6 +348,18 @@ impl State {
                 u16::from(left),
                 Value::Int(i64::from(value)),
             ),
+            Op::BinaryInt {
+                op,
+                to,
+                left,
+                value,
+            } => self.operate(
+                code,
+                op,
+                u16::from(to),
+                u16::from(left),
+                Value::Int(i64::from(value)),
+            ),
             Op::Binary {
                 op,
                 to,

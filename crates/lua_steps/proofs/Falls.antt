@@ -221,6 +221,7 @@ perform_lower n code (op.Sub to p q) m f pays lt fits = answered_lower n (rank n
 perform_lower n code (op.Mul to p q) m f pays lt fits = answered_lower n (rank n m) (binary m.aside.heap.texts binary_op.Mul (slot m p) (slot m q)) to (line code m) m lt (le_self (rank n m))
 perform_lower n code (op.AddInt to p i) m f pays lt fits = answered_lower n (rank n m) (binary m.aside.heap.texts binary_op.Add (slot m p) (value.Int i)) to (line code m) m lt (le_self (rank n m))
 perform_lower n code (op.MulInt to p i) m f pays lt fits = answered_lower n (rank n m) (binary m.aside.heap.texts binary_op.Mul (slot m p) (value.Int i)) to (line code m) m lt (le_self (rank n m))
+perform_lower n code (op.BinaryInt o to p i) m f pays lt fits = answered_lower n (rank n m) (binary m.aside.heap.texts o (slot m p) (value.Int i)) to (line code m) m lt (le_self (rank n m))
 perform_lower n code (op.Binary o to p q) m f pays lt fits = answered_lower n (rank n m) (binary m.aside.heap.texts o (slot m p) (slot m q)) to (line code m) m lt (le_self (rank n m))
 perform_lower n code (op.Unary o to p) m f pays lt fits = answered_lower n (rank n m) (unary m.aside.heap.texts o (slot m p)) to (line code m) m lt (le_self (rank n m))
 perform_lower n code (op.Tick pay) m f pays lt fits = paid_next n (rank n m) pay m lt (le_self (rank n m))

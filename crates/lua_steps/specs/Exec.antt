@@ -128,6 +128,7 @@ perform code (op.Sub to p q) m = answered (binary m.aside.heap.texts binary_op.S
 perform code (op.Mul to p q) m = answered (binary m.aside.heap.texts binary_op.Mul (slot m p) (slot m q)) to (line code m) m
 perform code (op.AddInt to p n) m = answered (binary m.aside.heap.texts binary_op.Add (slot m p) (value.Int n)) to (line code m) m
 perform code (op.MulInt to p n) m = answered (binary m.aside.heap.texts binary_op.Mul (slot m p) (value.Int n)) to (line code m) m
+perform code (op.BinaryInt o to p n) m = answered (binary m.aside.heap.texts o (slot m p) (value.Int n)) to (line code m) m
 perform code (op.Binary o to p q) m = answered (binary m.aside.heap.texts o (slot m p) (slot m q)) to (line code m) m
 perform code (op.Unary o to p) m = answered (unary m.aside.heap.texts o (slot m p)) to (line code m) m
 perform code (op.Tick pay) m = paid pay m (λ t. next t)

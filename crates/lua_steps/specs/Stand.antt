@@ -167,11 +167,11 @@ short_op binary.Mul r x y = Some (op.Mul r x y)
 short_op o r x y = None
 
 -- with an integer as the right operand
-abbrev pub int_op : Binary → ℕ → ℕ → ℤ → Option Op
-int_op binary.Add r x n = Some (op.AddInt r x n)
-int_op binary.Sub r x n = Some (op.AddInt r x (neg_ℤ n))
-int_op binary.Mul r x n = Some (op.MulInt r x n)
-int_op o r x n = None
+abbrev pub int_op : Binary → ℕ → ℕ → ℤ → Op
+int_op binary.Add r x n = op.AddInt r x n
+int_op binary.Sub r x n = op.AddInt r x (neg_ℤ n)
+int_op binary.Mul r x n = op.MulInt r x n
+int_op o r x n = op.BinaryInt o r x n
 
 -- and as the left one
 abbrev pub left_int_op : Binary → ℕ → ℤ → ℕ → Option Op
@@ -182,7 +182,7 @@ left_int_op o r n y = None
 -- the operator's value goes to slot r
 abbrev pub IsBinary : Code → ℕ → ℕ → Binary → ℕ → Shown → Shown → ℕ → Type 0
 IsBinary code f a o r (Reg x) (Reg y) line = AtLine code f a (op.Binary o r x y) line ⊎ AtSome code f a (short_op o r x y) line
-IsBinary code f a o r (Reg x) (Imm n) line = AtSome code f a (int_op o r x n) line
+IsBinary code f a o r (Reg x) (Imm n) line = AtLine code f a (int_op o r x n) line
 IsBinary code f a o r (Imm n) (Reg y) line = AtSome code f a (left_int_op o r n y) line
 IsBinary code f a o r _ _ line = ⊥
 

@@ -48,6 +48,10 @@ operators =
     op.Int 0 (pos 7) ∷ op.Int 1 (negsuc 1) ∷ op.Binary binary.FloorDiv 2 0 1 ∷ op.Binary binary.Mod 3 0 1 ∷ op.Int 0 (pos 1) ∷ op.Int 1 (pos 64) ∷ op.Binary binary.ShiftLeft 4 0 1
     ∷ op.Return 2 3 ∷ []
 
+-- local x = 7  return x // -2
+abbrev pub by_integer : List Op
+by_integer = op.Int 0 (pos 7) ∷ op.BinaryInt binary.FloorDiv 1 0 (negsuc 1) ∷ op.Return 1 1 ∷ []
+
 -- local a = 1  local function f() a = a + 1 end  f()  f()  return a
 abbrev pub adds : Routine
 adds = routine 0 false (capture.Cell 0 ∷ []) (op.GetUp 0 0 ∷ op.AddInt 0 0 (pos 1) ∷ op.SetUp 0 0 ∷ op.Return 0 0 ∷ [])
@@ -118,6 +122,7 @@ no_tail = op.Close 0 1 ∷ op.Move 1 2 ∷ op.CallAll 0 1 ∷ op.ReturnList ∷ 
 
 pub record CodeRunsAsInLua : Type 0 where
   pub operators_give : gives none operators ≡ ints (negsuc 3 ∷ negsuc 0 ∷ pos 0 ∷ [])
+  pub integer_divides : gives none by_integer ≡ ints (negsuc 3 ∷ [])
   pub cells_are_shared : gives adds shared ≡ ints (pos 3 ∷ [])
   pub loop_gives : gives none downwards ≡ ints (pos 4 ∷ [])
   pub step_is_refused : gives none no_step ≡ Error (codes "m.lua:1: for step is zero")

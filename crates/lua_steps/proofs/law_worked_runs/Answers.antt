@@ -8,6 +8,7 @@ unfolding int_wrap digits
 returns c =
     record {
       operators_give = refl;
+      integer_divides = refl;
       cells_are_shared = refl;
       loop_gives = refl;
       step_is_refused = refl;
