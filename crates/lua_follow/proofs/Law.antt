@@ -84,4 +84,4 @@ code_follows = record { opens = opens; stops = stops; asks = asks }
 pub known_has_rules : KnownHasRules
 known_has_rules code m s t vs valid waits narrow known until =
     let law = known_stays in
-    law.calls t (law.until (meaning_until.given s vs) t meaning.NoRule known until).0 (stops code m s t vs meaning.NoRule valid waits narrow until)
+    law.calls t (law.until (meaning_until.given s vs) t meaning.NoRule known until).0 (stops code m s t vs meaning.NoRule valid waits narrow until).calls

@@ -83,6 +83,12 @@ paired code homes (m ∷ ms) [] k c h e = absurd h
 paired code homes (m ∷ ms) (d ∷ cs) zero c h e = record { made = m; is = refl; closes = subst (λ x. Closes code homes m x) (some_is d c e) h.0 }
 paired code homes (m ∷ ms) (d ∷ cs) (suc k) c h e = let p = paired code homes ms cs k c h.1 e in record { made = p.made; is = p.is; closes = p.closes }
 
+unpaired : (code : Code) (homes : Homes) (ms : List Closure) (cs : List meaning.Closure) (k : ℕ) → ClosesAll code homes ms cs → slice_get cs k ≡ None → slice_get ms k ≡ None
+unpaired code homes [] cs k h e = refl
+unpaired code homes (m ∷ ms) [] k h e = absurd h
+unpaired code homes (m ∷ ms) (d ∷ cs) zero h e = absurd (cc)
+unpaired code homes (m ∷ ms) (d ∷ cs) (suc k) h e = unpaired code homes ms cs k h.1 e
+
 ups_has : (homes : Homes) (owners : Owners) (fr : View) (free cells : ℕ) (ns : List Known) (ks : List Named) → Ups homes fr.ups ns ks → HasAll homes owners fr free cells ns ks
 ups_has homes owners fr free cells [] [] h = tt
 ups_has homes owners fr free cells [] (k ∷ ks) h = absurd h
@@ -227,7 +233,12 @@ module _ (code : Code) (valid : IsValid code) (m0 m : Machine) (s : State) (home
 
   enter_in : (k : ℕ) (o : Option meaning.Closure) → slice_get s.closures k ≡ o → called_next s.focus s.ks ≡ Some (value.Func k)
       → Comes code (Sim code) m0 (enter code (slice_get m.closures k) vs cb (fr ∷ frs) m) (meaning_calls.enter o vs s (CallK line env ∷ contexts ws))
-  enter_in k None e calls = λ n runs. record { function = k; called = calls; unmade = no_closure s.closures k e }
+  enter_in k None e calls =
+      λ n runs. record {
+        calls = record { function = k; called = calls; unmade = no_closure s.closures k e };
+        n = n;
+        runs = runs ∙ ap (λ o. enter code o vs cb (fr ∷ frs) m) (unpaired code homes m.closures s.closures k memory.closures e);
+      }
   enter_in k (Some c) e calls =
       let p = paired code homes m.closures s.closures k c memory.closures e in
       comes_same code (Sim code) m0 (enter code (Some p.made) vs cb (fr ∷ frs) m) (enter code (slice_get m.closures k) vs cb (fr ∷ frs) m) (meaning_calls.enter (Some c) vs s (CallK line env ∷ contexts ws))

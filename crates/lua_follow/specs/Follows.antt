@@ -15,7 +15,7 @@ use Rattle.lua_meaning.specs.Until as meaning_until
 use Rattle.lua_meaning.specs.Until.{Until, Asks}
 use Rattle.lua_meaning.specs.Known.{Known, CallsNothingMade}
 use Rattle.lua_steps.specs.Machine as machine
-use Rattle.lua_steps.specs.Machine.{Code, Machine, On, Off, Paused}
+use Rattle.lua_steps.specs.Machine.{Code, Machine, On, Off, Paused, Stuck}
 use Rattle.lua_steps.specs.Moves.{slot}
 use Rattle.lua_steps.specs.Calls.{given}
 use Rattle.lua_steps.specs.Exec.{op_at, opening}
@@ -70,9 +70,15 @@ pub record Stops (code : Code) (m : Machine) (x : meaning.Stop) (t : State) : Ty
   pub same : SameStop x stop
   pub rests : RestsAt code x to t
 
--- The source comes to a term without a rule only by a call of a function that nothing made. There nothing is said of the machine.
+-- the source calls a function that nothing made, and the machine is stuck
+pub record Strands (code : Code) (m : Machine) (t : State) : Type 0 where
+  pub calls : CallsNothingMade t
+  pub n : ℕ
+  pub runs : run n code m ≡ Stuck
+
+-- The source comes to a term without a rule by such a call alone.
 abbrev pub Meets : Code → Machine → meaning.Stop → State → Type 0
-Meets code m meaning.NoRule t = CallsNothingMade t
+Meets code m meaning.NoRule t = Strands code m t
 Meets code m x t = Stops code m x t
 
 -- the machine comes to this call of the host, and waits as the state does
