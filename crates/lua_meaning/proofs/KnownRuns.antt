@@ -10,7 +10,7 @@ use Rattle.lua_meaning.specs.Reduce.{reduce}
 use Rattle.lua_meaning.specs.Until.{then_on, iterate, Until, Asks, given, opening}
 use Rattle.lua_meaning.specs.Known.{Made, AllMade, FocusMade, ContextsMade, made_in, Known, KnownIn, handed, asked_with, called_next, CallsNothingMade, KnownStaysKnown}
 use Rattle.lua_meaning.proofs.Known.{get_made, all_more}
-use Rattle.lua_meaning.proofs.KnownSteps.{After, step_known}
+use Rattle.lua_meaning.proofs.KnownSteps.{After, with_ticks, step_known}
 
 more_after : (n m : ℕ) (r : Step) → n ≤ m → After m r → After n r
 more_after n m (Next t) le h = let up = h.0 in (omega (arith, le, up), h.1)
@@ -61,5 +61,6 @@ known_stays =
       still_asking = λ s t c vs h u v. all_more (made_in s) (made_in t) (asks_known s t c h u).0 vs v;
       opens = λ name chunk heap budget args h. record { focus = h; contexts = (omega arith, tt); store = tt; closures = (tt, tt); resumers = tt; threads = (tt, tt) };
       gives = λ s vs h v. record { focus = v; contexts = h.contexts; store = h.store; closures = h.closures; resumers = h.resumers; threads = h.threads };
+      anew = λ s budget h. with_ticks s budget h;
       calls = calls_made;
     }

@@ -51,8 +51,9 @@ pays zero s f ks h a b = halts s Budget h tt
 pays (suc n) s f ks h a b =
     (le (made_in s), record { focus = a; contexts = b; store = h.store; closures = h.closures; resumers = h.resumers; threads = h.threads })
 
-fewer : (s : State) (n : ℕ) → Known s → Known (record s { left = n })
-fewer s n h = record { focus = h.focus; contexts = h.contexts; store = h.store; closures = h.closures; resumers = h.resumers; threads = h.threads }
+-- other ticks are left
+pub with_ticks : (s : State) (n : ℕ) → Known s → Known (record s { left = n })
+with_ticks s n h = record { focus = h.focus; contexts = h.contexts; store = h.store; closures = h.closures; resumers = h.resumers; threads = h.threads }
 
 pays_many : (b : Bool) (s : State) (n : ℕ) (go : State → Step) → Known s → After (made_in s) (go (record s { left = n })) → After (made_in s) (if b then Halt Budget s else go (record s { left = n }))
 pays_many true s n go h g = halts s Budget h tt
@@ -69,7 +70,7 @@ makes bytes what s ks h a b =
     pays_many (ltb s.left (model.text_ticks bytes)) s (s.left - model.text_ticks bytes)
     (λ t. kept (model.charged (model.text_units bytes) (model.holding bytes t.aside.heap)) t (what (model.text_value bytes t.aside.heap)) ks) h
     (keeps (model.charged (model.text_units bytes) (model.holding bytes s.aside.heap)) (record s { left = s.left - model.text_ticks bytes }) (what (model.text_value bytes s.aside.heap)) ks
-    (fewer s (s.left - model.text_ticks bytes) h) (a _) b)
+    (with_ticks s (s.left - model.text_ticks bytes) h) (a _) b)
 
 refuses : (line : Option ℕ) (why : Refusal) (s : State) (ks : List Context) → Known s → ContextsIn s ks → After (made_in s) (refused line why s ks)
 refuses line why s ks h b = makes _ (λ v. Raises v) s ks h (λ k. tt) b
@@ -288,7 +289,7 @@ stats (source.Do p) rest env s ks h d b = pays s.left s _ _ h d (d, b)
 stats (source.While e p) rest env s ks h d b = pays s.left s _ _ h d (d, b)
 stats (source.Repeat p e) rest env s ks h d b =
     pays_many (ltb s.left 2) s (s.left - 2) (λ t. goes t (Run p env) (RepeatLoopK p e rest env ∷ ks)) h
-    (goes_known (record s { left = s.left - 2 }) (Run p env) (RepeatLoopK p e rest env ∷ ks) (fewer s (s.left - 2) h) d (d, b))
+    (goes_known (record s { left = s.left - 2 }) (Run p env) (RepeatLoopK p e rest env ∷ ks) (with_ticks s (s.left - 2) h) d (d, b))
 stats (source.If e p others) rest env s ks h d b = pays s.left s _ _ h d (d, b)
 stats (source.Numeric x a z p line) rest env s ks h d b = pays s.left s _ _ h d ((tt, d), b)
 stats (source.NumericBy x a z c p line) rest env s ks h d b = pays s.left s _ _ h d ((tt, d), b)

@@ -155,5 +155,7 @@ pub record KnownStaysKnown : Type 0 where
   pub opens : (name : List ℕ) (chunk : Block) (heap : model.Heap) (budget : ℕ) (args : List Value) → KnownIn (opening name chunk heap budget args) args
       → Known (opening name chunk heap budget args)
   pub gives : (s : State) (vs : List Value) → Known s → KnownIn s vs → Known (given s vs)
+  -- and where its budget starts anew
+  pub anew : (s : State) (budget : ℕ) → Known s → Known (record s { left = budget })
   -- so it calls no function that nothing made
   pub calls : (s : State) → Known s → CallsNothingMade s → ⊥
