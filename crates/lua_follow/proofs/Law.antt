@@ -20,7 +20,8 @@ use Rattle.lua_steps.specs.Serves.{Serves, IsBody}
 use Rattle.lua_follow.specs.Spot.{BeginS}
 use Rattle.lua_follow.specs.Memory.{Begins}
 use Rattle.lua_follow.specs.Stands.{Stands, Waits}
-use Rattle.lua_follow.specs.Follows.{NarrowRun, Meets, Pauses, CodeFollows}
+use Rattle.lua_meaning.proofs.KnownRuns.{known_stays}
+use Rattle.lua_follow.specs.Follows.{NarrowRun, Meets, Pauses, CodeFollows, KnownHasRules}
 use Rattle.lua_follow.proofs.Receives.{receives}
 use Rattle.lua_follow.proofs.Dispatch.{rows}
 use Rattle.lua_follow.proofs.Sim.{Sim, standing}
@@ -78,3 +79,9 @@ asks code m s t vs c valid h narrow until =
 
 pub code_follows : CodeFollows
 code_follows = record { opens = opens; stops = stops; asks = asks }
+
+-- ---- a known state
+pub known_has_rules : KnownHasRules
+known_has_rules code m s t vs valid waits narrow known until =
+    let law = known_stays in
+    law.calls t (law.until (meaning_until.given s vs) t meaning.NoRule known until).0 (stops code m s t vs meaning.NoRule valid waits narrow until).calls

@@ -9,6 +9,7 @@ use Rattle.lua_code.specs.declared.op.Op.TheVariants as op
 use Rattle.lua_code.specs.Valid.{IsValid}
 use Rattle.lua_meaning.specs.State.{Env, Wanted, State, CallK, AfterK}
 use Rattle.lua_meaning.specs.Calls as meaning_calls
+use Rattle.lua_meaning.specs.Known.{called_next}
 use Rattle.lua_steps.specs.Machine as machine
 use Rattle.lua_steps.specs.Machine.{Code, Machine, Frame, InSlots, OnTop, Went, On, Off, Paused}
 use Rattle.lua_steps.specs.Moves.{values_from, slot, slots_from, with_lists, on_list}
@@ -49,16 +50,16 @@ module _ (code : Code) (valid : IsValid code) (m0 m : Machine) (s : State) (home
         waits = record { ks = ws; is = refl; homes = homes; owners = owners; memory = memory; parked = parked; below = below; beside = beside; left = omega (arith, e) };
       }
 
-  pub calls_comes : (f : Value) → come.Comes code (Sim code) m0 (calls code line f vs cb fr m) (meaning_calls.calls line f vs env s (contexts ws))
-  calls_comes (value.Func k) = enters code valid m0 m s homes owners line env ws fr m.below cb vs le memory parked below beside left k
-  calls_comes (value.Native k) = native k s.left m.left left
-  calls_comes value.Nil = refused_left code (Sim code) m0 m s line (refusal.Call value.Nil) (contexts ws) left leaves
-  calls_comes (value.Bool b) = refused_left code (Sim code) m0 m s line (refusal.Call (value.Bool b)) (contexts ws) left leaves
-  calls_comes (value.Int i) = refused_left code (Sim code) m0 m s line (refusal.Call (value.Int i)) (contexts ws) left leaves
-  calls_comes (value.Text i) = refused_left code (Sim code) m0 m s line (refusal.Call (value.Text i)) (contexts ws) left leaves
-  calls_comes (value.Table i) = refused_left code (Sim code) m0 m s line (refusal.Call (value.Table i)) (contexts ws) left leaves
-  calls_comes (value.Thread i) = refused_left code (Sim code) m0 m s line (refusal.Call (value.Thread i)) (contexts ws) left leaves
-  calls_comes (value.Packed i) = refused_left code (Sim code) m0 m s line (refusal.Call (value.Packed i)) (contexts ws) left leaves
+  pub calls_comes : (f : Value) → called_next s.focus s.ks ≡ Some f → come.Comes code (Sim code) m0 (calls code line f vs cb fr m) (meaning_calls.calls line f vs env s (contexts ws))
+  calls_comes (value.Func k) calls = enters code valid m0 m s homes owners line env ws fr m.below cb vs le memory parked below beside left k calls
+  calls_comes (value.Native k) calls = native k s.left m.left left
+  calls_comes value.Nil calls = refused_left code (Sim code) m0 m s line (refusal.Call value.Nil) (contexts ws) left leaves
+  calls_comes (value.Bool b) calls = refused_left code (Sim code) m0 m s line (refusal.Call (value.Bool b)) (contexts ws) left leaves
+  calls_comes (value.Int i) calls = refused_left code (Sim code) m0 m s line (refusal.Call (value.Int i)) (contexts ws) left leaves
+  calls_comes (value.Text i) calls = refused_left code (Sim code) m0 m s line (refusal.Call (value.Text i)) (contexts ws) left leaves
+  calls_comes (value.Table i) calls = refused_left code (Sim code) m0 m s line (refusal.Call (value.Table i)) (contexts ws) left leaves
+  calls_comes (value.Thread i) calls = refused_left code (Sim code) m0 m s line (refusal.Call (value.Thread i)) (contexts ws) left leaves
+  calls_comes (value.Packed i) calls = refused_left code (Sim code) m0 m s line (refusal.Call (value.Packed i)) (contexts ws) left leaves
 
 -- ---- the body's own call
 pub record Called (code : Code) (homes : Homes) (owners : Owners) (row : List Value) (n : ℕ) (ks : List Spot) (frs : List Frame) : Type 0 where
@@ -93,7 +94,7 @@ module _ (code : Code) (homes : Homes) (owners : Owners) (row : List Value) (n :
 
 -- ---- the frame that waits for the results
 module _ (code : Code) (valid : IsValid code) (m : Machine) (s : State) (ks : List Spot) (f : Value) (at : ℕ) (ss : Suffixes) (how : Wanted) (env : Env) (sc : Scope) (vs : List Value)
-    (h : Firm code m s ks) (suits : Suits how ks) (scoped : Scoped h.homes h.owners (view m.top) sc env (floor ks) (cells_in ks)) where
+    (h : Firm code m s ks) (suits : Suits how ks) (scoped : Scoped h.homes h.owners (view m.top) sc env (floor ks) (cells_in ks)) (next : called_next s.focus s.ks ≡ Some f) where
   abbrev d : ℕ
   d = free ks
 
@@ -136,7 +137,7 @@ module _ (code : Code) (valid : IsValid code) (m : Machine) (s : State) (ks : Li
   call_with o c ls fr cb is does same le parked left =
       calls_comes code valid m (with_lists ls m) s h.homes h.owners (AfterS ss how env sc c ∷ ks) fr cb vs (Some at) env (omega (arith, same, le))
       (subst (λ b. Memory code h.homes h.owners m.row m.cells m.closures s.store s.closures (b + floor ks) (b + floor ks)) (sym same) h.memory) parked
-      (subst (λ b. Below code h.homes h.owners m.row b ks m.below) (sym same) h.below) h.beside left f 1 (runs_op code m o _ is does)
+      (subst (λ b. Below code h.homes h.owners m.row b ks m.below) (sym same) h.below) h.beside left f next 1 (runs_op code m o _ is does)
 
   -- ---- arguments in slots
   abbrev Args-are : ℕ → Type 0

@@ -13,6 +13,7 @@ use Rattle.lua_meaning.specs.State as meaning
 use Rattle.lua_meaning.specs.State.{Env, Named, Focus, Declares, Lists, State, Step, Next, Halt, Pause, Context, CallK}
 use Rattle.lua_meaning.specs.Calls as meaning_calls
 use Rattle.lua_meaning.specs.Moves.{ticked}
+use Rattle.lua_meaning.specs.Known.{called_next}
 use Rattle.lua_steps.specs.declared.scope.Place.{Place}
 use Rattle.lua_steps.specs.declared.scope.Place.TheVariants.{InSlot, InCell, InUp, Hidden}
 use Rattle.lua_steps.specs.declared.scope.Known.{Known}
@@ -67,6 +68,11 @@ pub record Paired (code : Code) (homes : Homes) (ms : List Closure) (k : ℕ) (c
   pub is : slice_get ms k ≡ Some made
   pub closes : Closes code homes made c
 
+no_closure : {A : Type 0} (cs : List A) (k : ℕ) → slice_get cs k ≡ None → length cs ≤ k
+no_closure [] k e = omega arith
+no_closure (c ∷ cs) zero e = absurd (cc)
+no_closure (c ∷ cs) (suc k) e = let h = no_closure cs k e in omega (arith, h)
+
 some_is : {A : Type 0} (x y : A) → Some x ≡ Some y → x ≡ y
 some_is x y e = cc
 
@@ -76,6 +82,12 @@ paired code homes [] (d ∷ cs) k c h e = absurd h
 paired code homes (m ∷ ms) [] k c h e = absurd h
 paired code homes (m ∷ ms) (d ∷ cs) zero c h e = record { made = m; is = refl; closes = subst (λ x. Closes code homes m x) (some_is d c e) h.0 }
 paired code homes (m ∷ ms) (d ∷ cs) (suc k) c h e = let p = paired code homes ms cs k c h.1 e in record { made = p.made; is = p.is; closes = p.closes }
+
+unpaired : (code : Code) (homes : Homes) (ms : List Closure) (cs : List meaning.Closure) (k : ℕ) → ClosesAll code homes ms cs → slice_get cs k ≡ None → slice_get ms k ≡ None
+unpaired code homes [] cs k h e = refl
+unpaired code homes (m ∷ ms) [] k h e = absurd h
+unpaired code homes (m ∷ ms) (d ∷ cs) zero h e = absurd (cc)
+unpaired code homes (m ∷ ms) (d ∷ cs) (suc k) h e = unpaired code homes ms cs k h.1 e
 
 ups_has : (homes : Homes) (owners : Owners) (fr : View) (free cells : ℕ) (ns : List Known) (ks : List Named) → Ups homes fr.ups ns ks → HasAll homes owners fr free cells ns ks
 ups_has homes owners fr free cells [] [] h = tt
@@ -219,12 +231,18 @@ module _ (code : Code) (valid : IsValid code) (m0 m : Machine) (s : State) (home
       scene_left r c names dots xs cenv l j h =
           record { homes = h.homes; owners = h.owners; memory = h.memory; inner = h.inner; round = h.round; kept = h.kept; below = h.below; room = h.room; lists = h.lists; beside = h.beside }
 
-  enter_in : (k : ℕ) (o : Option meaning.Closure) → slice_get s.closures k ≡ o → Comes code (Sim code) m0 (enter code (slice_get m.closures k) vs cb (fr ∷ frs) m) (meaning_calls.enter o vs s (CallK line env ∷ contexts ws))
-  enter_in k None e = λ n runs. tt
-  enter_in k (Some c) e =
+  enter_in : (k : ℕ) (o : Option meaning.Closure) → slice_get s.closures k ≡ o → called_next s.focus s.ks ≡ Some (value.Func k)
+      → Comes code (Sim code) m0 (enter code (slice_get m.closures k) vs cb (fr ∷ frs) m) (meaning_calls.enter o vs s (CallK line env ∷ contexts ws))
+  enter_in k None e calls =
+      λ n runs. record {
+        calls = record { function = k; called = calls; unmade = no_closure s.closures k e };
+        n = n;
+        runs = runs ∙ ap (λ o. enter code o vs cb (fr ∷ frs) m) (unpaired code homes m.closures s.closures k memory.closures e);
+      }
+  enter_in k (Some c) e calls =
       let p = paired code homes m.closures s.closures k c memory.closures e in
       comes_same code (Sim code) m0 (enter code (Some p.made) vs cb (fr ∷ frs) m) (enter code (slice_get m.closures k) vs cb (fr ∷ frs) m) (meaning_calls.enter (Some c) vs s (CallK line env ∷ contexts ws))
       (meaning_calls.enter (Some c) vs s (CallK line env ∷ contexts ws)) (ap (λ o. enter code o vs cb (fr ∷ frs) m) p.is) refl (enter_body p.made p.closes.names c.body c.env p.closes.begins p.closes.ups)
 
-  pub enters : (k : ℕ) → Comes code (Sim code) m0 (enter code (slice_get m.closures k) vs cb (fr ∷ frs) m) (meaning_calls.enter (slice_get s.closures k) vs s (CallK line env ∷ contexts ws))
-  enters k = enter_in k (slice_get s.closures k) refl
+  pub enters : (k : ℕ) → called_next s.focus s.ks ≡ Some (value.Func k) → Comes code (Sim code) m0 (enter code (slice_get m.closures k) vs cb (fr ∷ frs) m) (meaning_calls.enter (slice_get s.closures k) vs s (CallK line env ∷ contexts ws))
+  enters k calls = enter_in k (slice_get s.closures k) refl calls

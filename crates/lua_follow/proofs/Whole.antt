@@ -37,7 +37,7 @@ stop_earlier : (code : Code) (n : ℕ) (m to : Machine) (x : meaning.Stop) (t : 
 stop_earlier code n m to x t runs h = record { n = n + h.n; stop = h.stop; to = h.to; runs = runs_more code n h.n m to _ runs h.runs; same = h.same; rests = h.rests }
 
 pub earlier_stop : (code : Code) (n : ℕ) (m to : Machine) (x : meaning.Stop) (t : State) → run n code m ≡ On to → Meets code to x t → Meets code m x t
-earlier_stop code n m to meaning.NoRule t runs h = tt
+earlier_stop code n m to meaning.NoRule t runs h = record { calls = h.calls; n = n + h.n; runs = runs_more code n h.n m to _ runs h.runs }
 earlier_stop code n m to (meaning.Return vs) t runs h = stop_earlier code n m to (meaning.Return vs) t runs h
 earlier_stop code n m to (meaning.Raise v) t runs h = stop_earlier code n m to (meaning.Raise v) t runs h
 earlier_stop code n m to meaning.Budget t runs h = stop_earlier code n m to meaning.Budget t runs h

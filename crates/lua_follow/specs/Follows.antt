@@ -13,8 +13,9 @@ use Rattle.lua_meaning.specs.State as meaning
 use Rattle.lua_meaning.specs.State.{State}
 use Rattle.lua_meaning.specs.Until as meaning_until
 use Rattle.lua_meaning.specs.Until.{Until, Asks}
+use Rattle.lua_meaning.specs.Known.{Known, CallsNothingMade}
 use Rattle.lua_steps.specs.Machine as machine
-use Rattle.lua_steps.specs.Machine.{Code, Machine, On, Off, Paused}
+use Rattle.lua_steps.specs.Machine.{Code, Machine, On, Off, Paused, Stuck}
 use Rattle.lua_steps.specs.Moves.{slot}
 use Rattle.lua_steps.specs.Calls.{given}
 use Rattle.lua_steps.specs.Exec.{op_at, opening}
@@ -69,9 +70,15 @@ pub record Stops (code : Code) (m : Machine) (x : meaning.Stop) (t : State) : Ty
   pub same : SameStop x stop
   pub rests : RestsAt code x to t
 
--- Nothing is said where the source comes to a term without a rule, or calls a function that nothing made.
+-- the source calls a function that nothing made, and the machine is stuck
+pub record Strands (code : Code) (m : Machine) (t : State) : Type 0 where
+  pub calls : CallsNothingMade t
+  pub n : ℕ
+  pub runs : run n code m ≡ Stuck
+
+-- The source comes to a term without a rule by such a call alone.
 abbrev pub Meets : Code → Machine → meaning.Stop → State → Type 0
-Meets code m meaning.NoRule t = Unit {0}
+Meets code m meaning.NoRule t = Strands code m t
 Meets code m x t = Stops code m x t
 
 -- the machine comes to this call of the host, and waits as the state does
@@ -91,3 +98,9 @@ pub record CodeFollows : Type 0 where
   -- or asks the host as it does
   pub asks : (code : Code) (m : Machine) (s t : State) (vs : List Value) (c : meaning.NativeCall) → IsValid code → Waits code m s → NarrowRun code (given m vs)
       → Asks (meaning_until.given s vs) c t → Pauses code (given m vs) c t
+
+-- Where all functions of a state were made, and those it is given, the source comes to no term without a rule.
+abbrev pub KnownHasRules : Type 0
+KnownHasRules =
+    (code : Code) (m : Machine) (s t : State) (vs : List Value) → IsValid code → Waits code m s → NarrowRun code (given m vs) → Known (meaning_until.given s vs)
+    → Until (meaning_until.given s vs) meaning.NoRule t → ⊥

@@ -9,6 +9,8 @@ use Rattle.lua_meaning.specs.State.{State}
 use Rattle.lua_meaning.specs.Until as until
 use Rattle.lua_meaning.specs.Until.{Until, Asks}
 use Rattle.lua_meaning.specs.Laws.{StepIsDetermined}
+use Rattle.lua_meaning.specs.Known.{Known, KnownIn}
+use Rattle.lua_meaning.proofs.KnownRuns.{known_stays}
 use Rattle.lua_steps.specs.Machine as steps
 use Rattle.lua_steps.specs.Machine.{Code, Machine, Went, On, Off, Paused, Stuck}
 use Rattle.lua_steps.specs.Calls.{given}
@@ -23,7 +25,7 @@ use Rattle.lua_machine.specs.declared.stop.GoError.TheVariants as error
 use Rattle.lua_machine.specs.Runs.{Runs, StuckIf}
 use Rattle.lua_machine.specs.declared.stop.NativeCall.{NativeCall}
 use Rattle.lua_machine.specs.Views.{call_of, stops}
-use Rattle.lua_machine.specs.Follows.{StopsAs, HasNoRule, Follows, NoRuleIf}
+use Rattle.lua_machine.specs.Follows.{StopsAs, HasNoRule, Follows, NoRuleIf, StopsRuled, StopsKnown, StaysKnown, UnknownIf}
 
 -- ---- ends of runs
 abbrev IsEnd : Went → Type 0
@@ -193,3 +195,41 @@ module _ (law : CodeFollows) (determined : StepIsDetermined) (code : Code) (vali
   no_rule_if error.Stuck r = stuck_has_no_rule r
   no_rule_if error.Memory r = tt
   no_rule_if error.Spent r = tt
+
+  -- ---- no term is without a rule
+  stop_is_none : (x : Stop) (to : Machine) → stops x to ≡ Stuck → ⊥
+  stop_is_none (stop.Native c) to e = cc
+  stop_is_none (stop.Return us) to e = cc
+  stop_is_none (stop.Raise v) to e = cc
+  stop_is_none stop.Budget to e = cc
+  stop_is_none stop.HeapFull to e = cc
+
+  ruled_by : (x : Stop) (to : Machine) (s : State) → Runs code (given m vs) (stops x to) → Waits code m s → StopsAs code (until.given s vs) x to ⊎ HasNoRule (until.given s vs) → StopsAs code (until.given s vs) x to
+  ruled_by x to s r w (inl h) = h
+  ruled_by x to s r w (inr h) =
+      let g = law.stops code m s h.0 vs meaning.NoRule valid w (narrow code (given m vs) (stops x to) (stop_ends x to) r) h.1 in
+      absurd (stop_is_none x to (one_end r.count g.n code (given m vs) _ _ (stop_ends x to) tt r.is g.runs))
+
+  pub ruled : (x : Stop) (to : Machine) → Runs code (given m vs) (stops x to) → StopsRuled code m vs x to
+  ruled x to r s w = ruled_by x to s r w (follows x to r s w)
+
+  known_at : (x : Stop) (to : Machine) (s : State) → Known s → StopsAs code s x to → StopsKnown code s x to
+  known_at (stop.Native c) to s k (t, h, w) = let g = known_stays.asks s t (record { called = c.called; args = c.args }) k h in (t, h, w, g.0, g.1.1)
+  known_at (stop.Return us) to s k (t, h, w) = let g = known_stays.until s t (meaning.Return us) k h in (t, h, w, g.0, g.1)
+  known_at (stop.Raise v) to s k (t, h, w) = let g = known_stays.until s t (meaning.Raise v) k h in (t, h, w, g.0, g.1)
+  known_at stop.Budget to s k (t, h, w) = let g = known_stays.until s t meaning.Budget k h in (t, h, w, g.0)
+  known_at stop.HeapFull to s k (t, h, w) = let g = known_stays.until s t meaning.HeapFull k h in (t, h, w, g.0)
+
+  pub stays_known : (x : Stop) (to : Machine) → Runs code (given m vs) (stops x to) → StaysKnown code m vs x to
+  stays_known x to r s w k = known_at x to (until.given s vs) k (ruled x to r s w)
+
+  unknown : Runs code (given m vs) Stuck → (s : State) → Waits code m s → Known (until.given s vs) → ⊥
+  unknown r s w k =
+      let h = stuck_has_no_rule r s w in
+      let g = law.stops code m s h.0 vs meaning.NoRule valid w (narrow code (given m vs) Stuck tt r) h.1 in
+      known_stays.calls h.0 (known_stays.until (until.given s vs) h.0 meaning.NoRule k h.1).0 g.calls
+
+  pub unknown_if : (e : GoError) → StuckIf e code (given m vs) → UnknownIf e code m vs
+  unknown_if error.Stuck r = unknown r
+  unknown_if error.Memory r = tt
+  unknown_if error.Spent r = tt

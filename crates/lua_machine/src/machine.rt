@@ -3,7 +3,7 @@ ghost use Rattle.lua_code.specs.Valid.{IsValid};
 ghost use Rattle.lua_steps.specs.Calls.{given};
 ghost use Rattle.lua_steps.specs.Exec.{fresh};
 ghost use Rattle.lua_machine.specs.Runs.{loaded, Runs, StuckIf, SpentIf};
-ghost use Rattle.lua_machine.specs.Follows.{Opens, BeginsAnew, Follows, NoRuleIf};
+ghost use Rattle.lua_machine.specs.Follows.{Opens, BeginsAnew, Follows, NoRuleIf, StopsRuled, StaysKnown, UnknownIf};
 ghost use Rattle.lua_machine.specs.Views.{stops};
 
 use crate::frame::{Frame, Wanted};
@@ -113,12 +113,16 @@ impl Machine {
 
     /// Runs to the next stop. The values go to the thread, which waits for them: as the arguments of the chunk, or as the results of the
     /// host's call at which it stopped. Where it waited as a state of the source does, it stops as that state does, with the same values,
-    /// ticks and units; this says nothing where the state comes to a term without a rule. After an error the machine is spent.
+    /// ticks and units. It is stuck only where a function is called that nothing made, which no state calls all of whose functions were
+    /// made, and that is given none but such. After an error the machine is spent.
     pub fn go(&mut self, values: Values) -> Result<Stop, GoError>
         ensures stop { IfOk result (λ stop. Runs self.old.code (given self.old.machine values) (stops stop self.new.machine)) }
         ensures follows { IfOk result (λ stop. Follows self.old.code self.old.machine values stop self.new.machine) }
+        ensures ruled { IfOk result (λ stop. StopsRuled self.old.code self.old.machine values stop self.new.machine) }
+        ensures known { IfOk result (λ stop. StaysKnown self.old.code self.old.machine values stop self.new.machine) }
         ensures stuck { IfErr result (λ e. StuckIf e self.old.code (given self.old.machine values)) }
         ensures no_rule { IfErr result (λ e. NoRuleIf e self.old.code self.old.machine values) }
+        ensures unknown { IfErr result (λ e. UnknownIf e self.old.code self.old.machine values) }
         ensures was_spent { IfErr result (λ e. SpentIf e self.old.spent) }
         ensures was_sound { OnOk result (self.old.spent ≡ false) }
         ensures sound { OnOk result (self.new.spent ≡ false) }

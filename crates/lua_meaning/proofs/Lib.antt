@@ -1,3 +1,6 @@
+pub mod Known
+pub mod KnownSteps
+pub mod KnownRuns
 pub mod Sound
 pub mod SoundRows
 pub mod SoundSteps

@@ -8,4 +8,5 @@ pub mod Reduce
 pub mod Until
 pub mod Size
 pub mod Laws
+pub mod Known
 pub mod Worked
