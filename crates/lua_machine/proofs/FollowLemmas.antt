@@ -25,7 +25,7 @@ use Rattle.lua_machine.specs.declared.stop.GoError.TheVariants as error
 use Rattle.lua_machine.specs.Runs.{Runs, StuckIf}
 use Rattle.lua_machine.specs.declared.stop.NativeCall.{NativeCall}
 use Rattle.lua_machine.specs.Views.{call_of, stops}
-use Rattle.lua_machine.specs.Follows.{StopsAs, HasNoRule, Follows, NoRuleIf, StopsRuled, StopsKnown, StaysKnown, UnknownIf}
+use Rattle.lua_machine.specs.Follows.{StopsAs, HasNoRule, Follows, NoRuleIf, StopsKnown, StaysKnown, UnknownIf}
 
 -- ---- ends of runs
 abbrev IsEnd : Went → Type 0
@@ -158,8 +158,8 @@ module _ (law : CodeFollows) (determined : StepIsDetermined) (code : Code) (vali
   met x to s meaning.HeapFull t r h g =
       inl (at_stop code (until.given s vs) x _ g.stop to g.to t (one_end r.count g.n code (given m vs) _ _ (stop_ends x to) tt r.is g.runs) g.same g.rests h)
 
-  pub follows : (x : Stop) (to : Machine) → Runs code (given m vs) (stops x to) → Follows code m vs x to
-  follows x to r s w = go (determined.ends (until.given s vs))
+  either : (x : Stop) (to : Machine) → Runs code (given m vs) (stops x to) → (s : State) → Waits code m s → StopsAs code (until.given s vs) x to ⊎ HasNoRule (until.given s vs)
+  either x to r s w = go (determined.ends (until.given s vs))
     where
       fits : NarrowRun code (given m vs)
       fits = narrow code (given m vs) (stops x to) (stop_ends x to) r
@@ -210,8 +210,8 @@ module _ (law : CodeFollows) (determined : StepIsDetermined) (code : Code) (vali
       let g = law.stops code m s h.0 vs meaning.NoRule valid w (narrow code (given m vs) (stops x to) (stop_ends x to) r) h.1 in
       absurd (stop_is_none x to (one_end r.count g.n code (given m vs) _ _ (stop_ends x to) tt r.is g.runs))
 
-  pub ruled : (x : Stop) (to : Machine) → Runs code (given m vs) (stops x to) → StopsRuled code m vs x to
-  ruled x to r s w = ruled_by x to s r w (follows x to r s w)
+  pub follows : (x : Stop) (to : Machine) → Runs code (given m vs) (stops x to) → Follows code m vs x to
+  follows x to r s w = ruled_by x to s r w (either x to r s w)
 
   known_at : (x : Stop) (to : Machine) (s : State) → Known s → StopsAs code s x to → StopsKnown code s x to
   known_at (stop.Native c) to s k (t, h, w) = let g = known_stays.asks s t (record { called = c.called; args = c.args }) k h in (t, h, w, g.0, g.1.1)
@@ -221,7 +221,7 @@ module _ (law : CodeFollows) (determined : StepIsDetermined) (code : Code) (vali
   known_at stop.HeapFull to s k (t, h, w) = let g = known_stays.until s t meaning.HeapFull k h in (t, h, w, g.0)
 
   pub stays_known : (x : Stop) (to : Machine) → Runs code (given m vs) (stops x to) → StaysKnown code m vs x to
-  stays_known x to r s w k = known_at x to (until.given s vs) k (ruled x to r s w)
+  stays_known x to r s w k = known_at x to (until.given s vs) k (follows x to r s w)
 
   unknown : Runs code (given m vs) Stuck → (s : State) → Waits code m s → Known (until.given s vs) → ⊥
   unknown r s w k =

@@ -41,49 +41,50 @@ written_after before row i (v ∷ vs) =
 
 -- ---- valid code
 pub within_fits : (code : Code) (f : Routine) (at n : ℕ) (o : Op) → Fits code f at o → f.shape.slots ≤ n → Within n o
-within_fits code f at n (op.Nil to) (p , g) le = let s : to + 1 ≤ f.shape.slots = p in omega (arith, s, le)
-within_fits code f at n (op.Bool to value) (p , g) le = let s : to + 1 ≤ f.shape.slots = p in omega (arith, s, le)
-within_fits code f at n (op.Int to value) (p , g) le = let s : to + 1 ≤ f.shape.slots = p in omega (arith, s, le)
-within_fits code f at n (op.Move to from) (p , q , g) le = let s : to + 1 ≤ f.shape.slots = p in let t : from + 1 ≤ f.shape.slots = q in (omega (arith, s, le) , omega (arith, t, le))
-within_fits code f at n (op.GetCell to cell) (p , j , g) le = let s : to + 1 ≤ f.shape.slots = p in omega (arith, s, le)
-within_fits code f at n (op.SetCell cell from) (c , p , g) le = let s : from + 1 ≤ f.shape.slots = p in omega (arith, s, le)
-within_fits code f at n (op.GetUp to up) (p , j , g) le = let s : to + 1 ≤ f.shape.slots = p in omega (arith, s, le)
-within_fits code f at n (op.SetUp up from) (c , p , g) le = let s : from + 1 ≤ f.shape.slots = p in omega (arith, s, le)
-within_fits code f at n (op.Add to left right) (p , q , r , g) le =
+within_fits code f at n (op.Nil to) (p, g) le = let s : to + 1 ≤ f.shape.slots = p in omega (arith, s, le)
+within_fits code f at n (op.Bool to value) (p, g) le = let s : to + 1 ≤ f.shape.slots = p in omega (arith, s, le)
+within_fits code f at n (op.Int to value) (p, g) le = let s : to + 1 ≤ f.shape.slots = p in omega (arith, s, le)
+within_fits code f at n (op.Move to from) (p, q, g) le = let s : to + 1 ≤ f.shape.slots = p in let t : from + 1 ≤ f.shape.slots = q in (omega (arith, s, le), omega (arith, t, le))
+within_fits code f at n (op.GetCell to cell) (p, j, g) le = let s : to + 1 ≤ f.shape.slots = p in omega (arith, s, le)
+within_fits code f at n (op.SetCell cell from) (c, p, g) le = let s : from + 1 ≤ f.shape.slots = p in omega (arith, s, le)
+within_fits code f at n (op.GetUp to up) (p, j, g) le = let s : to + 1 ≤ f.shape.slots = p in omega (arith, s, le)
+within_fits code f at n (op.SetUp up from) (c, p, g) le = let s : from + 1 ≤ f.shape.slots = p in omega (arith, s, le)
+within_fits code f at n (op.Add to left right) (p, q, r, g) le =
     let s : to + 1 ≤ f.shape.slots = p in
     let t : left + 1 ≤ f.shape.slots = q in
     let u : right + 1 ≤ f.shape.slots = r in
-    (omega (arith, s, le) , omega (arith, t, le) , omega (arith, u, le))
-within_fits code f at n (op.Sub to left right) (p , q , r , g) le =
+    (omega (arith, s, le), omega (arith, t, le), omega (arith, u, le))
+within_fits code f at n (op.Sub to left right) (p, q, r, g) le =
     let s : to + 1 ≤ f.shape.slots = p in
     let t : left + 1 ≤ f.shape.slots = q in
     let u : right + 1 ≤ f.shape.slots = r in
-    (omega (arith, s, le) , omega (arith, t, le) , omega (arith, u, le))
-within_fits code f at n (op.Mul to left right) (p , q , r , g) le =
+    (omega (arith, s, le), omega (arith, t, le), omega (arith, u, le))
+within_fits code f at n (op.Mul to left right) (p, q, r, g) le =
     let s : to + 1 ≤ f.shape.slots = p in
     let t : left + 1 ≤ f.shape.slots = q in
     let u : right + 1 ≤ f.shape.slots = r in
-    (omega (arith, s, le) , omega (arith, t, le) , omega (arith, u, le))
-within_fits code f at n (op.AddInt to left value) (p , q , g) le = let s : to + 1 ≤ f.shape.slots = p in let t : left + 1 ≤ f.shape.slots = q in (omega (arith, s, le) , omega (arith, t, le))
-within_fits code f at n (op.MulInt to left value) (p , q , g) le = let s : to + 1 ≤ f.shape.slots = p in let t : left + 1 ≤ f.shape.slots = q in (omega (arith, s, le) , omega (arith, t, le))
-within_fits code f at n (op.Binary sign to left right) (p , q , r , g) le =
+    (omega (arith, s, le), omega (arith, t, le), omega (arith, u, le))
+within_fits code f at n (op.AddInt to left value) (p, q, g) le = let s : to + 1 ≤ f.shape.slots = p in let t : left + 1 ≤ f.shape.slots = q in (omega (arith, s, le), omega (arith, t, le))
+within_fits code f at n (op.MulInt to left value) (p, q, g) le = let s : to + 1 ≤ f.shape.slots = p in let t : left + 1 ≤ f.shape.slots = q in (omega (arith, s, le), omega (arith, t, le))
+within_fits code f at n (op.Binary sign to left right) (p, q, r, g) le =
     let s : to + 1 ≤ f.shape.slots = p in
     let t : left + 1 ≤ f.shape.slots = q in
     let u : right + 1 ≤ f.shape.slots = r in
-    (omega (arith, s, le) , omega (arith, t, le) , omega (arith, u, le))
-within_fits code f at n (op.Test from to) (p , j , g) le = let s : from + 1 ≤ f.shape.slots = p in omega (arith, s, le)
-within_fits code f at n (op.TestNot from to) (p , j , g) le = let s : from + 1 ≤ f.shape.slots = p in omega (arith, s, le)
-within_fits code f at n (op.UnlessLess left right pay to) (p , q , j , g) le = let s : left + 1 ≤ f.shape.slots = p in let t : right + 1 ≤ f.shape.slots = q in (omega (arith, s, le) , omega (arith, t, le))
-within_fits code f at n (op.UnlessLessEqual left right pay to) (p , q , j , g) le = let s : left + 1 ≤ f.shape.slots = p in let t : right + 1 ≤ f.shape.slots = q in (omega (arith, s, le) , omega (arith, t, le))
-within_fits code f at n (op.UnlessEqual left right pay to) (p , q , j , g) le = let s : left + 1 ≤ f.shape.slots = p in let t : right + 1 ≤ f.shape.slots = q in (omega (arith, s, le) , omega (arith, t, le))
-within_fits code f at n (op.UnlessNotEqual left right pay to) (p , q , j , g) le = let s : left + 1 ≤ f.shape.slots = p in let t : right + 1 ≤ f.shape.slots = q in (omega (arith, s, le) , omega (arith, t, le))
-within_fits code f at n (op.UnlessLessInt left value pay to) (p , j , g) le = let s : left + 1 ≤ f.shape.slots = p in omega (arith, s, le)
-within_fits code f at n (op.UnlessLessEqualInt left value pay to) (p , j , g) le = let s : left + 1 ≤ f.shape.slots = p in omega (arith, s, le)
-within_fits code f at n (op.UnlessGreaterInt left value pay to) (p , j , g) le = let s : left + 1 ≤ f.shape.slots = p in omega (arith, s, le)
-within_fits code f at n (op.UnlessGreaterEqualInt left value pay to) (p , j , g) le = let s : left + 1 ≤ f.shape.slots = p in omega (arith, s, le)
-within_fits code f at n (op.UnlessEqualInt left value pay to) (p , j , g) le = let s : left + 1 ≤ f.shape.slots = p in omega (arith, s, le)
-within_fits code f at n (op.UnlessNotEqualInt left value pay to) (p , j , g) le = let s : left + 1 ≤ f.shape.slots = p in omega (arith, s, le)
-within_fits code f at n (op.ForLoop pay base to) (p , j , g) le = let s : base + 4 ≤ f.shape.slots = p in omega (arith, s, le)
+    (omega (arith, s, le), omega (arith, t, le), omega (arith, u, le))
+within_fits code f at n (op.BinaryInt sign to left value) (p, q, g) le = let s : to + 1 ≤ f.shape.slots = p in let t : left + 1 ≤ f.shape.slots = q in (omega (arith, s, le), omega (arith, t, le))
+within_fits code f at n (op.Test from to) (p, j, g) le = let s : from + 1 ≤ f.shape.slots = p in omega (arith, s, le)
+within_fits code f at n (op.TestNot from to) (p, j, g) le = let s : from + 1 ≤ f.shape.slots = p in omega (arith, s, le)
+within_fits code f at n (op.UnlessLess left right pay to) (p, q, j, g) le = let s : left + 1 ≤ f.shape.slots = p in let t : right + 1 ≤ f.shape.slots = q in (omega (arith, s, le), omega (arith, t, le))
+within_fits code f at n (op.UnlessLessEqual left right pay to) (p, q, j, g) le = let s : left + 1 ≤ f.shape.slots = p in let t : right + 1 ≤ f.shape.slots = q in (omega (arith, s, le), omega (arith, t, le))
+within_fits code f at n (op.UnlessEqual left right pay to) (p, q, j, g) le = let s : left + 1 ≤ f.shape.slots = p in let t : right + 1 ≤ f.shape.slots = q in (omega (arith, s, le), omega (arith, t, le))
+within_fits code f at n (op.UnlessNotEqual left right pay to) (p, q, j, g) le = let s : left + 1 ≤ f.shape.slots = p in let t : right + 1 ≤ f.shape.slots = q in (omega (arith, s, le), omega (arith, t, le))
+within_fits code f at n (op.UnlessLessInt left value pay to) (p, j, g) le = let s : left + 1 ≤ f.shape.slots = p in omega (arith, s, le)
+within_fits code f at n (op.UnlessLessEqualInt left value pay to) (p, j, g) le = let s : left + 1 ≤ f.shape.slots = p in omega (arith, s, le)
+within_fits code f at n (op.UnlessGreaterInt left value pay to) (p, j, g) le = let s : left + 1 ≤ f.shape.slots = p in omega (arith, s, le)
+within_fits code f at n (op.UnlessGreaterEqualInt left value pay to) (p, j, g) le = let s : left + 1 ≤ f.shape.slots = p in omega (arith, s, le)
+within_fits code f at n (op.UnlessEqualInt left value pay to) (p, j, g) le = let s : left + 1 ≤ f.shape.slots = p in omega (arith, s, le)
+within_fits code f at n (op.UnlessNotEqualInt left value pay to) (p, j, g) le = let s : left + 1 ≤ f.shape.slots = p in omega (arith, s, le)
+within_fits code f at n (op.ForLoop pay base to) (p, j, g) le = let s : base + 4 ≤ f.shape.slots = p in omega (arith, s, le)
 within_fits code f at n (op.Constant to index) fits le = tt
 within_fits code f at n (op.NewCell cell from) fits le = tt
 within_fits code f at n (op.Close to function) fits le = tt
@@ -112,33 +113,34 @@ within_fits code f at n op.ReturnList fits le = tt
 within_fits code f at n op.Start fits le = tt
 
 pub near_fits : (code : Code) (f : Routine) (at : ℕ) (o : Op) → Fits code f at o → Near (length f.ops) at o
-near_fits code f at (op.Nil to) (a , g) = g
-near_fits code f at (op.Bool to value) (a , g) = g
-near_fits code f at (op.Int to value) (a , g) = g
-near_fits code f at (op.Close to function) (a , b , g) = g
-near_fits code f at (op.CloseCell cell function) (a , b , g) = g
-near_fits code f at (op.Constant to index) (a , b , g) = g
-near_fits code f at (op.Move to from) (a , b , g) = g
-near_fits code f at (op.NewCell cell from) (a , b , g) = g
-near_fits code f at (op.GetCell to cell) (a , b , g) = g
-near_fits code f at (op.SetCell cell from) (a , b , g) = g
-near_fits code f at (op.GetUp to up) (a , b , g) = g
-near_fits code f at (op.SetUp up from) (a , b , g) = g
-near_fits code f at (op.AddInt to left value) (a , b , g) = g
-near_fits code f at (op.MulInt to left value) (a , b , g) = g
-near_fits code f at (op.Unary sign to from) (a , b , g) = g
-near_fits code f at (op.ForCall base results) (a , b , g) = g
-near_fits code f at (op.Call base args results) (a , b , g) = g
-near_fits code f at (op.CallAll base args) (a , g) = g
-near_fits code f at (op.TailCall base args) (a , g) = g
-near_fits code f at (op.Push from) (a , g) = g
-near_fits code f at (op.DotsTo to count) (a , g) = g
-near_fits code f at (op.Spread to count) (a , g) = g
-near_fits code f at (op.Item to index) (a , g) = g
-near_fits code f at (op.Add to left right) (a , b , c , g) = g
-near_fits code f at (op.Sub to left right) (a , b , c , g) = g
-near_fits code f at (op.Mul to left right) (a , b , c , g) = g
-near_fits code f at (op.Binary sign to left right) (a , b , c , g) = g
+near_fits code f at (op.Nil to) (a, g) = g
+near_fits code f at (op.Bool to value) (a, g) = g
+near_fits code f at (op.Int to value) (a, g) = g
+near_fits code f at (op.Close to function) (a, b, g) = g
+near_fits code f at (op.CloseCell cell function) (a, b, g) = g
+near_fits code f at (op.Constant to index) (a, b, g) = g
+near_fits code f at (op.Move to from) (a, b, g) = g
+near_fits code f at (op.NewCell cell from) (a, b, g) = g
+near_fits code f at (op.GetCell to cell) (a, b, g) = g
+near_fits code f at (op.SetCell cell from) (a, b, g) = g
+near_fits code f at (op.GetUp to up) (a, b, g) = g
+near_fits code f at (op.SetUp up from) (a, b, g) = g
+near_fits code f at (op.AddInt to left value) (a, b, g) = g
+near_fits code f at (op.MulInt to left value) (a, b, g) = g
+near_fits code f at (op.BinaryInt sign to left value) (a, b, g) = g
+near_fits code f at (op.Unary sign to from) (a, b, g) = g
+near_fits code f at (op.ForCall base results) (a, b, g) = g
+near_fits code f at (op.Call base args results) (a, b, g) = g
+near_fits code f at (op.CallAll base args) (a, g) = g
+near_fits code f at (op.TailCall base args) (a, g) = g
+near_fits code f at (op.Push from) (a, g) = g
+near_fits code f at (op.DotsTo to count) (a, g) = g
+near_fits code f at (op.Spread to count) (a, g) = g
+near_fits code f at (op.Item to index) (a, g) = g
+near_fits code f at (op.Add to left right) (a, b, c, g) = g
+near_fits code f at (op.Sub to left right) (a, b, c, g) = g
+near_fits code f at (op.Mul to left right) (a, b, c, g) = g
+near_fits code f at (op.Binary sign to left right) (a, b, c, g) = g
 near_fits code f at (op.Tick pay) g = g
 near_fits code f at op.Begin g = g
 near_fits code f at op.Append g = g
@@ -146,23 +148,23 @@ near_fits code f at op.Dots g = g
 near_fits code f at (op.CallList base) g = g
 near_fits code f at (op.TailCallList base) g = g
 near_fits code f at op.Start g = g
-near_fits code f at (op.Jump to) (lt , within) = within
-near_fits code f at (op.Loop pay to) (paid , within) = within
-near_fits code f at (op.Test from to) (a , (lt , within) , g) = (within , g)
-near_fits code f at (op.TestNot from to) (a , (lt , within) , g) = (within , g)
-near_fits code f at (op.UnlessLessInt left value pay to) (a , (lt , within) , g) = (within , g)
-near_fits code f at (op.UnlessLessEqualInt left value pay to) (a , (lt , within) , g) = (within , g)
-near_fits code f at (op.UnlessGreaterInt left value pay to) (a , (lt , within) , g) = (within , g)
-near_fits code f at (op.UnlessGreaterEqualInt left value pay to) (a , (lt , within) , g) = (within , g)
-near_fits code f at (op.UnlessEqualInt left value pay to) (a , (lt , within) , g) = (within , g)
-near_fits code f at (op.UnlessNotEqualInt left value pay to) (a , (lt , within) , g) = (within , g)
-near_fits code f at (op.UnlessLess left right pay to) (a , b , (lt , within) , g) = (within , g)
-near_fits code f at (op.UnlessLessEqual left right pay to) (a , b , (lt , within) , g) = (within , g)
-near_fits code f at (op.UnlessEqual left right pay to) (a , b , (lt , within) , g) = (within , g)
-near_fits code f at (op.UnlessNotEqual left right pay to) (a , b , (lt , within) , g) = (within , g)
-near_fits code f at (op.ForPrep pay base to) (a , j , g) = g
-near_fits code f at (op.ForLoop pay base to) (a , (paid , within) , g) = (within , g)
-near_fits code f at (op.ForEach pay base to) (a , j , g) = g
+near_fits code f at (op.Jump to) (lt, within) = within
+near_fits code f at (op.Loop pay to) (paid, within) = within
+near_fits code f at (op.Test from to) (a, (lt, within), g) = (within, g)
+near_fits code f at (op.TestNot from to) (a, (lt, within), g) = (within, g)
+near_fits code f at (op.UnlessLessInt left value pay to) (a, (lt, within), g) = (within, g)
+near_fits code f at (op.UnlessLessEqualInt left value pay to) (a, (lt, within), g) = (within, g)
+near_fits code f at (op.UnlessGreaterInt left value pay to) (a, (lt, within), g) = (within, g)
+near_fits code f at (op.UnlessGreaterEqualInt left value pay to) (a, (lt, within), g) = (within, g)
+near_fits code f at (op.UnlessEqualInt left value pay to) (a, (lt, within), g) = (within, g)
+near_fits code f at (op.UnlessNotEqualInt left value pay to) (a, (lt, within), g) = (within, g)
+near_fits code f at (op.UnlessLess left right pay to) (a, b, (lt, within), g) = (within, g)
+near_fits code f at (op.UnlessLessEqual left right pay to) (a, b, (lt, within), g) = (within, g)
+near_fits code f at (op.UnlessEqual left right pay to) (a, b, (lt, within), g) = (within, g)
+near_fits code f at (op.UnlessNotEqual left right pay to) (a, b, (lt, within), g) = (within, g)
+near_fits code f at (op.ForPrep pay base to) (a, j, g) = g
+near_fits code f at (op.ForLoop pay base to) (a, (paid, within), g) = (within, g)
+near_fits code f at (op.ForEach pay base to) (a, j, g) = g
 near_fits code f at (op.Return from count) fits = tt
 near_fits code f at op.ReturnList fits = tt
 
@@ -215,17 +217,17 @@ ran_falls code f own ups row cells after later pace then_at o falls valid is qui
 
 -- ---- a row in two parts
 pub split : (n : ℕ) (xs : List Value) → n ≤ length xs → (take n xs ++ drop n xs ≡ xs) × (length (take n xs) ≡ n)
-split zero xs le = (refl , refl)
+split zero xs le = (refl, refl)
 split (suc n) [] le = absurd (omega (arith, le))
 split (suc n) (x ∷ xs) le =
     let less : n ≤ length xs = omega (arith, le) in
-    let (same , long) = split n xs less in
-    (ap (λ (ys : List Value). x ∷ ys) same , ap (λ (k : ℕ). suc k) long)
+    let (same, long) = split n xs less in
+    (ap (λ (ys : List Value). x ∷ ys) same, ap (λ (k : ℕ). suc k) long)
 
 pub led : (code : Code) (f : ℕ) (own ups : List ℕ) (base : ℕ) (row cells : List Value) (pace : Pace) (w later : List Value) (then_at : Pace) → base ≤ length row
     → Ran code f own ups (drop base row) cells pace w later then_at → Led code f own ups base row cells pace (take base row ++ w) later then_at
 led code f own ups base row cells pace w later then_at le ran =
-    let (same , long) = split base row le in
+    let (same, long) = split base row le in
     record {
       is = λ m.
           subst (λ (r : List Value). Runs code (placed f own ups base r cells pace m) (On (placed f own ups base (take base row ++ w) later then_at m))) same

@@ -1,5 +1,5 @@
 -- How a machine that waits as a state of the source does goes on as the state does. A state is one of lua_meaning's.
-use Rattle.std.specs.Prelude.{◌≡◌, ℕ, ◌⊎◌, true, List, [], ◌∷◌}
+use Rattle.std.specs.Prelude.{◌≡◌, ℕ, true, List, [], ◌∷◌}
 use Rattle.lua_tree.specs.Source.{Block}
 use Rattle.lua_value.specs.declared.value.Value.{Value}
 use Rattle.lua_meaning.specs.State as meaning
@@ -30,17 +30,13 @@ HasNoRule s = (t : State) × Until s meaning.NoRule t
 
 -- each state as which the machine waited, given these values, stops so
 abbrev pub Follows : steps.Code → steps.Machine → List Value → Stop → steps.Machine → Type 0
-Follows code m vs x to = (s : State) → Waits code m s → StopsAs code (given s vs) x to ⊎ HasNoRule (given s vs)
+Follows code m vs x to = (s : State) → Waits code m s → StopsAs code (given s vs) x to
 
 abbrev pub NoRuleIf : GoError → steps.Code → steps.Machine → List Value → Type 0
 NoRuleIf error.Stuck code m vs = (s : State) → Waits code m s → HasNoRule (given s vs)
 NoRuleIf _ code m vs = Unit {0}
 
 -- ---- no term is without a rule
--- Where the machine stops, so does each state as which it waited, and as the machine does.
-abbrev pub StopsRuled : steps.Code → steps.Machine → List Value → Stop → steps.Machine → Type 0
-StopsRuled code m vs x to = (s : State) → Waits code m s → StopsAs code (given s vs) x to
-
 -- A state whose functions all were made stops so: at its stop it holds no others, and hands out no others.
 abbrev pub StopsKnown : steps.Code → State → Stop → steps.Machine → Type 0
 StopsKnown code s (stop.Native c) m = (t : State) × Asks s (record { called = c.called; args = c.args }) t × Waits code m t × Known t × KnownIn t c.args

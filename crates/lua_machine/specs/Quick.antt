@@ -79,6 +79,7 @@ Within n (op.Mul to left right) = (to < n) × (left < n) × (right < n)
 Within n (op.AddInt to left value) = (to < n) × (left < n)
 Within n (op.MulInt to left value) = (to < n) × (left < n)
 Within n (op.Binary sign to left right) = (to < n) × (left < n) × (right < n)
+Within n (op.BinaryInt sign to left value) = (to < n) × (left < n)
 Within n (op.Test from to) = from < n
 Within n (op.TestNot from to) = from < n
 Within n (op.UnlessLess left right pay to) = (left < n) × (right < n)

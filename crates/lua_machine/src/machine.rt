@@ -3,7 +3,7 @@ ghost use Rattle.lua_code.specs.Valid.{IsValid};
 ghost use Rattle.lua_steps.specs.Calls.{given};
 ghost use Rattle.lua_steps.specs.Exec.{fresh};
 ghost use Rattle.lua_machine.specs.Runs.{loaded, Runs, StuckIf, SpentIf};
-ghost use Rattle.lua_machine.specs.Follows.{Opens, BeginsAnew, Follows, NoRuleIf, StopsRuled, StaysKnown, UnknownIf};
+ghost use Rattle.lua_machine.specs.Follows.{Opens, BeginsAnew, Follows, NoRuleIf, StaysKnown, UnknownIf};
 ghost use Rattle.lua_machine.specs.Views.{stops};
 
 use crate::frame::{Frame, Wanted};
@@ -118,7 +118,6 @@ impl Machine {
     pub fn go(&mut self, values: Values) -> Result<Stop, GoError>
         ensures stop { IfOk result (λ stop. Runs self.old.code (given self.old.machine values) (stops stop self.new.machine)) }
         ensures follows { IfOk result (λ stop. Follows self.old.code self.old.machine values stop self.new.machine) }
-        ensures ruled { IfOk result (λ stop. StopsRuled self.old.code self.old.machine values stop self.new.machine) }
         ensures known { IfOk result (λ stop. StaysKnown self.old.code self.old.machine values stop self.new.machine) }
         ensures stuck { IfErr result (λ e. StuckIf e self.old.code (given self.old.machine values)) }
         ensures no_rule { IfErr result (λ e. NoRuleIf e self.old.code self.old.machine values) }

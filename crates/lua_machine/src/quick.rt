@@ -10,7 +10,9 @@ ghost use Rattle.lua_machine.specs.Quick.{Quick, OnSlots, Within, Near, IsGiven,
 
 use crate::cells::{cell_of, cell_value, put_in_cell};
 use crate::pace::Pace;
-use crate::slots::{after, chooses, computed, gives, long, pays, put_turn, short, slot, slot_after, tiny};
+use crate::slots::{
+    after, chooses, computed, gives, long, pays, put_turn, short, slot, slot_after, tiny,
+};
 use lua_code::{Function, Op};
 use lua_heap::Heap;
 use lua_model::Binary;
@@ -369,6 +371,12 @@ fn on_slots(op: Op, row: &mut [Value], pace: Pace, _count: usize) -> Option<Pace
             left,
             right,
         } => of_slots(op, o, row, to, left, right, pace),
+        Op::BinaryInt {
+            op: o,
+            to,
+            left,
+            value,
+        } => of_int(op, o, row, u16::from(to), u16::from(left), value, pace),
         Op::Tick { pay } => pays_on(op, row, pay, pace),
         Op::Jump { at } => Some(Pace {
             at: at as usize,
@@ -388,7 +396,17 @@ fn on_slots(op: Op, row: &mut [Value], pace: Pace, _count: usize) -> Option<Pace
             right,
             pay,
             at,
-        } => test_of_slots(op, Binary::LessEqual, row, left, right, pay, at, pace, _count),
+        } => test_of_slots(
+            op,
+            Binary::LessEqual,
+            row,
+            left,
+            right,
+            pay,
+            at,
+            pace,
+            _count,
+        ),
         Op::UnlessEqual {
             left,
             right,
@@ -400,7 +418,17 @@ fn on_slots(op: Op, row: &mut [Value], pace: Pace, _count: usize) -> Option<Pace
             right,
             pay,
             at,
-        } => test_of_slots(op, Binary::NotEqual, row, left, right, pay, at, pace, _count),
+        } => test_of_slots(
+            op,
+            Binary::NotEqual,
+            row,
+            left,
+            right,
+            pay,
+            at,
+            pace,
+            _count,
+        ),
         Op::UnlessLessInt {
             left,
             value,

@@ -69,6 +69,6 @@ returns-in_default c =
     record {
       ok = some_map c.on_slots.result _ _ (λ p h. record { is = λ code f before m. h.is code (around f c.args.own.now c.args.ups.now before m) cells; narrow = h.narrow }) c.on_slots.ensures.ok;
       place = c.on_slots.ensures.place;
-      none = none_map c.on_slots.result _ _ (λ same. (same , refl)) c.on_slots.ensures.none;
+      none = none_map c.on_slots.result _ _ (λ same. (same, refl)) c.on_slots.ensures.none;
       heap = refl;
     }
