@@ -1,5 +1,5 @@
 -- A writer as the final code has it.
-use Rattle.std.proofs.Common.{◌≡◌, ℕ, ◌+◌, ◌<◌, ◌≤◌, refl, sym, ◌∙◌, subst, List, [], ◌∷◌, ◌++◌, length, Some, arith, Bool, true, false}
+use Rattle.std.proofs.Common.{◌≡◌, ℕ, zero, suc, ◌+◌, ◌<◌, ◌≤◌, refl, sym, ◌∙◌, subst, List, [], ◌∷◌, ◌++◌, length, Some, arith, Bool, true, false}
 use Rattle.std.specs.Prelude.{slice_get, ◌||◌, not, ◌==◌, ◌&&◌, ℤ}
 use Rattle.std.proofs.lemmas.Bool.Decides.{eqb_tells}
 use Rattle.std.proofs.Common.{⊎_elim, ◌≢◌}
@@ -94,15 +94,21 @@ and_right true b e = e
 and_right false b e = absurd (cc)
 
 -- ---- what follows an expression
--- the code goes on at c where it is true, and at the label where it is false
-pub record Jumps (code : Code) (f : ℕ) (L : List ℕ) (l : ℕ) (R : ℕ → Shown → Type 0) (c : ℕ) : Type 0 where
-  pub holds : R c (Holds 0)
-  pub int : (n : ℤ) → R c (Imm n)
+-- so many ticks are paid from b to c
+abbrev pub Pays : Code → ℕ → ℕ → ℕ → ℕ → Type 0
+Pays code f zero b c = b ≡ c
+Pays code f (suc k) b c = At code f b (op.Tick (suc k)) × (b + 1 ≡ c)
+
+-- the code goes on at c where it is true, and so many ticks are paid there; at the label where it is false
+pub record Jumps (code : Code) (f : ℕ) (L : List ℕ) (l pay : ℕ) (R : ℕ → Shown → Type 0) (c : ℕ) : Type 0 where
+  pub holds : R c (Holds pay)
+  pub always : (b : ℕ) → Pays code f pay b c → R b (Holds 0)
+  pub int : (n : ℤ) (b : ℕ) → Pays code f pay b c → R b (Imm n)
   pub fails : R (place L l) Fails
-  pub test : (b r : ℕ) → b + 1 ≡ c → At code f b (op.Test r (place L l)) → R b (Reg r)
-  pub test_not : (b r : ℕ) → b + 1 ≡ c → At code f b (op.TestNot r (place L l)) → R b (Not r)
+  pub test : (b r : ℕ) → Pays code f pay (b + 1) c → At code f b (op.Test r (place L l)) → R b (Reg r)
+  pub test_not : (b r : ℕ) → Pays code f pay (b + 1) c → At code f b (op.TestNot r (place L l)) → R b (Not r)
 
 abbrev pub Given : Code → ℕ → List ℕ → Aim → Operand → (ℕ → Shown → Type 0) → ℕ → Type 0
 Given code f L (Into r) p R c = R c (Reg r)
 Given code f L (Anywhere room) p R c = R c (shown_of p)
-Given code f L (Unless l) p R c = Jumps code f L l R c
+Given code f L (Unless l pay) p R c = Jumps code f L l pay R c

@@ -13,7 +13,7 @@ use Rattle.lua_code.specs.declared.function.Constant.TheVariants as constant
 use Rattle.lua_code.specs.declared.op.Op.{Op}
 use Rattle.lua_code.specs.declared.op.Op.TheVariants as op
 use Rattle.lua_code.specs.Routine.{Routine}
-use Rattle.lua_code.specs.Valid.{CaptureFits, IsValidFunction}
+use Rattle.lua_code.specs.Valid.{Forward, CaptureFits, IsValidFunction}
 use Rattle.lua_steps.specs.declared.scope.Place.{Place}
 use Rattle.lua_steps.specs.declared.scope.Place.TheVariants.{InSlot, InCell, InUp, Hidden}
 use Rattle.lua_steps.specs.declared.scope.Known.{Known}
@@ -27,9 +27,9 @@ use Rattle.lua_compile.specs.declared.aim.Operand.TheVariants.{Slot, Constant as
 use Rattle.lua_compile.specs.declared.aim.Want.{Want}
 use Rattle.lua_compile.specs.declared.aim.Want.TheVariants as want
 use Rattle.lua_compile.specs.Writer.{Writer, emit, put, with_constant, lost_if, counted, declare_all, all_known, flag, place, captured, captures_of, up_from, after_up, seen_inside}
-use Rattle.lua_compile.specs.Forms.{register, settled, int_written, int_aimed, has_room, true_written, slot_written, name_written, stored, from, stores_written, nils_written, on_slot, some_written, or_else, shown_of, differ, binary_written, test_written, unary_slot, last_settled, called, called_list, wanted_written, where_none, ticked, ticked_more, ticked_twice, jumped, where_else}
+use Rattle.lua_compile.specs.Forms.{register, paid_here, settled, int_written, int_aimed, has_room, true_written, slot_written, name_written, stored, from, stores_written, nils_written, on_slot, some_written, or_else, shown_of, differ, binary_written, test_written, unary_slot, last_settled, called, called_list, wanted_written, where_none, ticked, ticked_more, ticked_twice, jumped, where_else}
 use Rattle.lua_compile.proofs.Kept.{Level, kept_self, kept_emit, get_end}
-use Rattle.lua_compile.proofs.KeptForms.{k_put, k_settled, k_nils, k_stored, k_from, k_stores, k_declare_all}
+use Rattle.lua_compile.proofs.KeptForms.{k_put, k_paid, k_settled, k_nils, k_stored, k_from, k_stores, k_declare_all}
 use Rattle.lua_compile.proofs.Fit.{Asks, Fin, fin_back, Fitting, fit_emit}
 
 -- what is written fits, and the functions that are done are valid
@@ -42,7 +42,7 @@ abbrev pub Ahead : Routine → List ℕ → ℕ → ℕ → Type 0
 Ahead r L l c = (c ≤ place L l) × (place L l < length r.ops)
 
 abbrev pub Aimed : Routine → List ℕ → Aim → ℕ → Type 0
-Aimed r L (Unless l) c = Ahead r L l c
+Aimed r L (Unless l pay) c = Ahead r L l c
 Aimed r L _ c = Unit {0}
 
 abbrev pub Leaves : Routine → List ℕ → Option ℕ → ℕ → Type 0
@@ -122,10 +122,21 @@ module _ (code : Code) (f : ℕ) (r : Routine) (L : List ℕ) where
         made = λ k h is. g.made k h (subst (λ (xs : List Routine). slice_get xs k ≡ Some h) m is);
       }
 
+  g_paid : (n pay : ℕ) (w : Writer) → Level w → F n (paid_here pay w) → G w → G (paid_here pay w)
+  g_paid n zero w lv fin g = g
+  g_paid n (suc k) w lv fin g = g_emit n (op.Tick (suc k)) 0 w lv fin tt g
+
+  -- a test whose label is ahead, and the ticks after it
+  g_tested : (n pay l : ℕ) (o : Op) (w : Writer) → Level w → F n (paid_here pay (put o w)) → Ahead r L l (paid_here pay (put o w)).at → (Forward r w.at (place L l) → Asks code r L w.at o) → G w → G (paid_here pay (put o w))
+  g_tested n pay l o w lv fin a asks g =
+      let v = put o w in
+      let k = k_paid v v pay (kept_self 0 v) in
+      g_paid n pay v ((kept_emit 0 o 0 w).level lv) fin (g_emit n o 0 w lv (fin_back code f r L n v (paid_here pay v) fin k) (asks (omega (arith, a.0, k.at), a.1)) g)
+
   pub g_settled : (n : ℕ) (aim : Aim) (s : ℕ) (v : Writer) → Level v → F n (settled aim s v) → Aimed r L aim (settled aim s v).at → G v → G (settled aim s v)
   g_settled n (Into d) s v lv fin a g = g
   g_settled n (Anywhere room) s v lv fin a g = g
-  g_settled n (Unless l) s v lv fin a g = g_emit n (op.Test s l) 0 v lv fin (omega (arith, a.0), a.1) g
+  g_settled n (Unless l pay) s v lv fin a g = g_tested n pay l (op.Test s l) v lv fin a (λ h. h) g
 
   pub g_int : (n s : ℕ) (m : ℤ) (b : Bool) (w : Writer) → Level w → F n (if b then put (op.Int s m) w else put (op.Constant s (length w.draft.constants)) (with_constant (constant.Int m) w)) → G w
       → G (if b then put (op.Int s m) w else put (op.Constant s (length w.draft.constants)) (with_constant (constant.Int m) w))
@@ -141,17 +152,17 @@ module _ (code : Code) (f : ℕ) (r : Routine) (L : List ℕ) where
   pub g_aimed : (n : ℕ) (m : ℤ) (d : ℕ) (aim : Aim) (w : Writer) → Level w → F n (int_aimed m d aim w) → G w → G (int_aimed m d aim w)
   g_aimed n m d (Into s) w lv fin g = g_int n s m _ w lv fin g
   g_aimed n m d (Anywhere room) w lv fin g = g_room n d m (has_room room m) w lv fin g
-  g_aimed n m d (Unless l) w lv fin g = g
+  g_aimed n m d (Unless l pay) w lv fin g = g_paid n pay w lv fin g
 
   pub g_true : (n d : ℕ) (aim : Aim) (w : Writer) → Level w → F n (true_written d aim w) → G w → G (true_written d aim w)
   g_true n d (Into s) w lv fin g = g_emit n (op.Bool s true) 0 w lv fin tt g
   g_true n d (Anywhere room) w lv fin g = g_emit n (op.Bool d true) 0 w lv fin tt g
-  g_true n d (Unless l) w lv fin g = g
+  g_true n d (Unless l pay) w lv fin g = g_paid n pay w lv fin g
 
   g_slot : (n s d : ℕ) (aim : Aim) (w : Writer) → Level w → F n (slot_written s d aim w) → Aimed r L aim (slot_written s d aim w).at → G w → G (slot_written s d aim w)
   g_slot n s d (Into t) w lv fin a g = g_emit n (op.Move t s) 0 w lv fin tt g
   g_slot n s d (Anywhere room) w lv fin a g = g
-  g_slot n s d (Unless l) w lv fin a g = g_emit n (op.Test s l) 0 w lv fin (omega (arith, a.0), a.1) g
+  g_slot n s d (Unless l pay) w lv fin a g = g_tested n pay l (op.Test s l) w lv fin a (λ h. h) g
 
   -- an operation that asks nothing more, and what its aim asks
   pub g_put_in : (n d : ℕ) (aim : Aim) (o : Op) (line : ℕ) (w : Writer) → Level w → F n (settled aim (register aim d) (emit o line w)) → Aimed r L aim (settled aim (register aim d) (emit o line w)).at → Asks code r L w.at o → G w
@@ -221,41 +232,41 @@ module _ (code : Code) (f : ℕ) (r : Routine) (L : List ℕ) where
   g_binary n o s (Slot x) (Held m) line w lv fin g = g_emit n (int_op o s x m) line w lv fin (int_asks o s x m w.at) g
   g_binary n o s (Held m) q line w lv fin g = g_same w (lost_if true w) refl refl g
 
-  g_tests : (n : ℕ) (o : Binary) (p q : Operand) (l line : ℕ) (w : Writer) → Level w → F n (some_written (test_op o (shown_of p) (shown_of q) 0 l) line w) → Ahead r L l (some_written (test_op o (shown_of p) (shown_of q) 0 l) line w).at → G w
-      → G (some_written (test_op o (shown_of p) (shown_of q) 0 l) line w)
-  g_tests n binary.Less (Slot x) (Slot y) l line w lv fin a g = g_emit n _ line w lv fin (omega (arith, a.0), a.1) g
-  g_tests n binary.Less (Slot x) (Held m) l line w lv fin a g = g_emit n _ line w lv fin (omega (arith, a.0), a.1) g
-  g_tests n binary.Less (Held m) (Slot y) l line w lv fin a g = g_emit n _ line w lv fin (omega (arith, a.0), a.1) g
-  g_tests n binary.Less (Held m) (Held i) l line w lv fin a g = g_same w (lost_if true w) refl refl g
-  g_tests n binary.LessEqual (Slot x) (Slot y) l line w lv fin a g = g_emit n _ line w lv fin (omega (arith, a.0), a.1) g
-  g_tests n binary.LessEqual (Slot x) (Held m) l line w lv fin a g = g_emit n _ line w lv fin (omega (arith, a.0), a.1) g
-  g_tests n binary.LessEqual (Held m) (Slot y) l line w lv fin a g = g_emit n _ line w lv fin (omega (arith, a.0), a.1) g
-  g_tests n binary.LessEqual (Held m) (Held i) l line w lv fin a g = g_same w (lost_if true w) refl refl g
-  g_tests n binary.Greater (Slot x) (Slot y) l line w lv fin a g = g_emit n _ line w lv fin (omega (arith, a.0), a.1) g
-  g_tests n binary.Greater (Slot x) (Held m) l line w lv fin a g = g_emit n _ line w lv fin (omega (arith, a.0), a.1) g
-  g_tests n binary.Greater (Held m) (Slot y) l line w lv fin a g = g_emit n _ line w lv fin (omega (arith, a.0), a.1) g
-  g_tests n binary.Greater (Held m) (Held i) l line w lv fin a g = g_same w (lost_if true w) refl refl g
-  g_tests n binary.GreaterEqual (Slot x) (Slot y) l line w lv fin a g = g_emit n _ line w lv fin (omega (arith, a.0), a.1) g
-  g_tests n binary.GreaterEqual (Slot x) (Held m) l line w lv fin a g = g_emit n _ line w lv fin (omega (arith, a.0), a.1) g
-  g_tests n binary.GreaterEqual (Held m) (Slot y) l line w lv fin a g = g_emit n _ line w lv fin (omega (arith, a.0), a.1) g
-  g_tests n binary.GreaterEqual (Held m) (Held i) l line w lv fin a g = g_same w (lost_if true w) refl refl g
-  g_tests n binary.Equal (Slot x) (Slot y) l line w lv fin a g = g_emit n _ line w lv fin (omega (arith, a.0), a.1) g
-  g_tests n binary.Equal (Slot x) (Held m) l line w lv fin a g = g_emit n _ line w lv fin (omega (arith, a.0), a.1) g
-  g_tests n binary.Equal (Held m) (Slot y) l line w lv fin a g = g_emit n _ line w lv fin (omega (arith, a.0), a.1) g
-  g_tests n binary.Equal (Held m) (Held i) l line w lv fin a g = g_same w (lost_if true w) refl refl g
-  g_tests n binary.NotEqual (Slot x) (Slot y) l line w lv fin a g = g_emit n _ line w lv fin (omega (arith, a.0), a.1) g
-  g_tests n binary.NotEqual (Slot x) (Held m) l line w lv fin a g = g_emit n _ line w lv fin (omega (arith, a.0), a.1) g
-  g_tests n binary.NotEqual (Held m) (Slot y) l line w lv fin a g = g_emit n _ line w lv fin (omega (arith, a.0), a.1) g
-  g_tests n binary.NotEqual (Held m) (Held i) l line w lv fin a g = g_same w (lost_if true w) refl refl g
-  g_tests n o p q l line w lv fin a g = g_same w (lost_if true w) refl refl g
+  g_tests : (n : ℕ) (o : Binary) (p q : Operand) (pay l line : ℕ) (w : Writer) → Level w → F n (some_written (test_op o (shown_of p) (shown_of q) pay l) line w) → Ahead r L l (some_written (test_op o (shown_of p) (shown_of q) pay l) line w).at → G w
+      → G (some_written (test_op o (shown_of p) (shown_of q) pay l) line w)
+  g_tests n binary.Less (Slot x) (Slot y) pay l line w lv fin a g = g_emit n _ line w lv fin (omega (arith, a.0), a.1) g
+  g_tests n binary.Less (Slot x) (Held m) pay l line w lv fin a g = g_emit n _ line w lv fin (omega (arith, a.0), a.1) g
+  g_tests n binary.Less (Held m) (Slot y) pay l line w lv fin a g = g_emit n _ line w lv fin (omega (arith, a.0), a.1) g
+  g_tests n binary.Less (Held m) (Held i) pay l line w lv fin a g = g_same w (lost_if true w) refl refl g
+  g_tests n binary.LessEqual (Slot x) (Slot y) pay l line w lv fin a g = g_emit n _ line w lv fin (omega (arith, a.0), a.1) g
+  g_tests n binary.LessEqual (Slot x) (Held m) pay l line w lv fin a g = g_emit n _ line w lv fin (omega (arith, a.0), a.1) g
+  g_tests n binary.LessEqual (Held m) (Slot y) pay l line w lv fin a g = g_emit n _ line w lv fin (omega (arith, a.0), a.1) g
+  g_tests n binary.LessEqual (Held m) (Held i) pay l line w lv fin a g = g_same w (lost_if true w) refl refl g
+  g_tests n binary.Greater (Slot x) (Slot y) pay l line w lv fin a g = g_emit n _ line w lv fin (omega (arith, a.0), a.1) g
+  g_tests n binary.Greater (Slot x) (Held m) pay l line w lv fin a g = g_emit n _ line w lv fin (omega (arith, a.0), a.1) g
+  g_tests n binary.Greater (Held m) (Slot y) pay l line w lv fin a g = g_emit n _ line w lv fin (omega (arith, a.0), a.1) g
+  g_tests n binary.Greater (Held m) (Held i) pay l line w lv fin a g = g_same w (lost_if true w) refl refl g
+  g_tests n binary.GreaterEqual (Slot x) (Slot y) pay l line w lv fin a g = g_emit n _ line w lv fin (omega (arith, a.0), a.1) g
+  g_tests n binary.GreaterEqual (Slot x) (Held m) pay l line w lv fin a g = g_emit n _ line w lv fin (omega (arith, a.0), a.1) g
+  g_tests n binary.GreaterEqual (Held m) (Slot y) pay l line w lv fin a g = g_emit n _ line w lv fin (omega (arith, a.0), a.1) g
+  g_tests n binary.GreaterEqual (Held m) (Held i) pay l line w lv fin a g = g_same w (lost_if true w) refl refl g
+  g_tests n binary.Equal (Slot x) (Slot y) pay l line w lv fin a g = g_emit n _ line w lv fin (omega (arith, a.0), a.1) g
+  g_tests n binary.Equal (Slot x) (Held m) pay l line w lv fin a g = g_emit n _ line w lv fin (omega (arith, a.0), a.1) g
+  g_tests n binary.Equal (Held m) (Slot y) pay l line w lv fin a g = g_emit n _ line w lv fin (omega (arith, a.0), a.1) g
+  g_tests n binary.Equal (Held m) (Held i) pay l line w lv fin a g = g_same w (lost_if true w) refl refl g
+  g_tests n binary.NotEqual (Slot x) (Slot y) pay l line w lv fin a g = g_emit n _ line w lv fin (omega (arith, a.0), a.1) g
+  g_tests n binary.NotEqual (Slot x) (Held m) pay l line w lv fin a g = g_emit n _ line w lv fin (omega (arith, a.0), a.1) g
+  g_tests n binary.NotEqual (Held m) (Slot y) pay l line w lv fin a g = g_emit n _ line w lv fin (omega (arith, a.0), a.1) g
+  g_tests n binary.NotEqual (Held m) (Held i) pay l line w lv fin a g = g_same w (lost_if true w) refl refl g
+  g_tests n o p q pay l line w lv fin a g = g_same w (lost_if true w) refl refl g
 
   pub g_test : (n : ℕ) (o : Binary) (p q : Operand) (aim : Aim) (line : ℕ) (w : Writer) → Level w → F n (test_written o p q aim line w) → Aimed r L aim (test_written o p q aim line w).at → G w → G (test_written o p q aim line w)
-  g_test n o p q (Unless l) line w lv fin a g = g_tests n o p q l line w lv fin a g
+  g_test n o p q (Unless l pay) line w lv fin a g = g_tests n o p q pay l line w lv fin a g
   g_test n o p q (Into s) line w lv fin a g = g_same w (lost_if true w) refl refl g
   g_test n o p q (Anywhere room) line w lv fin a g = g_same w (lost_if true w) refl refl g
 
   pub g_unary : (n x d : ℕ) (u : Unary) (aim : Aim) (line : ℕ) (w : Writer) → Level w → F n (unary_slot u x d aim line w) → Aimed r L aim (unary_slot u x d aim line w).at → G w → G (unary_slot u x d aim line w)
-  g_unary n x d unary.Not (Unless l) line w lv fin a g = g_emit n (op.TestNot x l) 0 w lv fin (omega (arith, a.0), a.1) g
+  g_unary n x d unary.Not (Unless l pay) line w lv fin a g = g_tested n pay l (op.TestNot x l) w lv fin a (λ h. h) g
   g_unary n x d unary.Not (Into s) line w lv fin a g = g_emit n (op.Unary unary.Not s x) line w lv fin tt g
   g_unary n x d unary.Not (Anywhere room) line w lv fin a g = g_emit n (op.Unary unary.Not d x) line w lv fin tt g
   g_unary n x d u aim line w lv fin a g = g_put_in n d aim (op.Unary u (register aim d) x) line w lv fin a tt g

@@ -29,7 +29,7 @@ use Rattle.lua_compile.proofs.FitForms.{Good, Ahead, Aimed, Leaves, Sees, captur
 pub aimed_less : (r : Routine) (L : List ℕ) (aim : Aim) (c b : ℕ) → b ≤ c → Aimed r L aim c → Aimed r L aim b
 aimed_less r L (Into s) c b le a = tt
 aimed_less r L (Anywhere room) c b le a = tt
-aimed_less r L (Unless l) c b le a = (omega (arith, a.0), a.1)
+aimed_less r L (Unless l pay) c b le a = (omega (arith, a.0), a.1)
 
 pub leaves_less : (r : Routine) (L : List ℕ) (o : Option ℕ) (c b : ℕ) → b ≤ c → Leaves r L o c → Leaves r L o b
 leaves_less r L None c b le a = tt

@@ -27,7 +27,7 @@ use Rattle.lua_compile.specs.declared.aim.Operand.TheVariants.{Slot}
 use Rattle.lua_compile.specs.declared.aim.Want.{Want}
 use Rattle.lua_compile.specs.declared.aim.Want.TheVariants as want
 use Rattle.lua_compile.specs.Writer.{Writer, cell_reach, put, labelled, label_of, placed_here, with_constant, lost_if, counted, done, flag, all_known, declare_all, captures_of, seen_inside, begun, resumed, place, placed}
-use Rattle.lua_compile.specs.Forms.{register, settled, differ, int_written, has_room, nils_written, shown, on_slot, is_slot, binary_written, tests, room_for, test_written, unary_slot, so_far, last_settled, link_aim, is_both, all_and, is_many, count, slots_fit, targets_fit, is_only, is_tail, only_shown, suffix_want, called, called_list, where_none, prepay, ticked, ticked_more, paid_before, ticked_twice, only_direct, only_slot, directly, jumped, where_else, function_known, close_op, stores_written, numeric_written, generic_written}
+use Rattle.lua_compile.specs.Forms.{register, settled, differ, int_written, has_room, nils_written, shown, on_slot, is_slot, binary_written, tests, room_for, test_written, unary_slot, so_far, last_settled, link_aim, and_pay, is_both, all_and, is_many, count, slots_fit, targets_fit, is_only, is_tail, only_shown, suffix_want, called, called_list, where_none, prepay, ticked, ticked_more, paid_before, ticked_twice, only_direct, only_slot, directly, jumped, where_else, function_known, close_op, stores_written, numeric_written, generic_written}
 use Rattle.lua_compile.specs.Written.{exp_written, ands_written, operands_written, suffixes_written, fixed_written, values_written, many_written, list_written, all_written, tail_written, only_written, body_written, block_written, block_known, stats_written, stats_known, stat_written, stat_known, else_written}
 use Rattle.lua_compile.proofs.Kept.{Level, kept_self, kept_emit, get_front, get_end}
 use Rattle.lua_compile.proofs.KeptForms.{k_put, k_labelled, k_lost, k_counted, k_resumed, k_if, k_settled, k_int, k_nils, k_jumped, k_on, k_unary, k_binary, k_test, k_last, k_none, k_ticked, k_ticked_more, k_ticked_twice, k_stores, k_where_else, k_called, k_called_list, k_declare_all}
@@ -108,32 +108,32 @@ module _ (code : Code) where
         let p = shown e sc.names d b in
         let fin_u = fin_back code f r L n u _ fin (operands_kept (MoreOperands o line x os) sc d (Anywhere room) p u) in
         operands_fits (MoreOperands o line x os) f r L sc d (Anywhere room) p u n (omega (arith, le, ku.more)) (ku.level lv) fin a s (exp_fits e f r L sc d b w n le lv fin_u (link_aimed r L (link_of o) d u.at) s g)
-    exp_fits (source.Chain e (MoreOperands o line x os)) f r L sc d (Unless l) w n le lv fin a s g =
+    exp_fits (source.Chain e (MoreOperands o line x os)) f r L sc d (Unless l pay) w n le lv fin a s g =
         let ch = MoreOperands o line x os in
-        let v = exp_written e sc d (Unless l) w in
-        let kv = exp_kept e sc d (Unless l) w in
+        let v = exp_written e sc d (Unless l 0) w in
+        let kv = exp_kept e sc d (Unless l 0) w in
         let b = link_aim (link_of o) d in
         let u = exp_written e sc d b w in
         let ku = exp_kept e sc d b w in
         let p = shown e sc.names d b in
-        fit_if (λ t. Fin code f r L n t × Ahead r L l t.at) (λ t. Good code r L t) (is_both (link_of o) && all_and os) (ands_written ch sc d (Unless l) v) (operands_written ch sc d (Unless l) p u) (fin, a)
+        fit_if (λ t. Fin code f r L n t × Ahead r L l t.at) (λ t. Good code r L t) (is_both (link_of o) && all_and os) (ands_written ch sc d (Unless l pay) v) (operands_written ch sc d (Unless l pay) p u) (fin, a)
         (λ all h.
-        let ka = ands_kept ch sc d (Unless l) v in
-        let fin_v = fin_back code f r L n v (ands_written ch sc d (Unless l) v) h.0 ka in
-        ands_fits (MoreOperands o line x os) f r L sc d l v n (omega (arith, le, kv.more)) (kv.level lv) h.0 h.1 s (exp_fits e f r L sc d (Unless l) w n le lv fin_v (omega (arith, h.1.0, ka.at), h.1.1) s g))
+        let ka = ands_kept ch sc d (Unless l pay) v in
+        let fin_v = fin_back code f r L n v (ands_written ch sc d (Unless l pay) v) h.0 ka in
+        ands_fits (MoreOperands o line x os) f r L sc d l pay v n (omega (arith, le, kv.more)) (kv.level lv) h.0 h.1 s (exp_fits e f r L sc d (Unless l 0) w n le lv fin_v (omega (arith, h.1.0, ka.at), h.1.1) s g))
         (λ some h.
-        let fin_u = fin_back code f r L n u (operands_written ch sc d (Unless l) p u) h.0 (operands_kept ch sc d (Unless l) p u) in
-        operands_fits (MoreOperands o line x os) f r L sc d (Unless l) p u n (omega (arith, le, ku.more)) (ku.level lv) h.0 h.1 s (exp_fits e f r L sc d b w n le lv fin_u (link_aimed r L (link_of o) d u.at) s g))
+        let fin_u = fin_back code f r L n u (operands_written ch sc d (Unless l pay) p u) h.0 (operands_kept ch sc d (Unless l pay) p u) in
+        operands_fits (MoreOperands o line x os) f r L sc d (Unless l pay) p u n (omega (arith, le, ku.more)) (ku.level lv) h.0 h.1 s (exp_fits e f r L sc d b w n le lv fin_u (link_aimed r L (link_of o) d u.at) s g))
 
-    pub ands_fits : (os : Operands) (f : ℕ) (r : Routine) (L : List ℕ) (sc : Scope) (d l : ℕ) (w : Writer) (n : ℕ) → n ≤ length w.labels → Level w
-        → Fin code f r L n (ands_written os sc d (Unless l) w) → Ahead r L l (ands_written os sc d (Unless l) w).at → Sees r sc.names → Good code r L w → Good code r L (ands_written os sc d (Unless l) w)
-    ands_fits NoOperand f r L sc d l w n le lv fin a s g = g
-    ands_fits (MoreOperands o line e os) f r L sc d l w n le lv fin a s g =
-        let v = exp_written e sc d (Unless l) w in
-        let kv = exp_kept e sc d (Unless l) w in
-        let ka = ands_kept os sc d (Unless l) v in
-        let fin_v = fin_back code f r L n v (ands_written os sc d (Unless l) v) fin ka in
-        ands_fits os f r L sc d l v n (omega (arith, le, kv.more)) (kv.level lv) fin a s (exp_fits e f r L sc d (Unless l) w n le lv fin_v (omega (arith, a.0, ka.at), a.1) s g)
+    pub ands_fits : (os : Operands) (f : ℕ) (r : Routine) (L : List ℕ) (sc : Scope) (d l pay : ℕ) (w : Writer) (n : ℕ) → n ≤ length w.labels → Level w
+        → Fin code f r L n (ands_written os sc d (Unless l pay) w) → Ahead r L l (ands_written os sc d (Unless l pay) w).at → Sees r sc.names → Good code r L w → Good code r L (ands_written os sc d (Unless l pay) w)
+    ands_fits NoOperand f r L sc d l pay w n le lv fin a s g = g
+    ands_fits (MoreOperands o line e os) f r L sc d l pay w n le lv fin a s g =
+        let v = exp_written e sc d (Unless l (and_pay os pay)) w in
+        let kv = exp_kept e sc d (Unless l (and_pay os pay)) w in
+        let ka = ands_kept os sc d (Unless l pay) v in
+        let fin_v = fin_back code f r L n v (ands_written os sc d (Unless l pay) v) fin ka in
+        ands_fits os f r L sc d l pay v n (omega (arith, le, kv.more)) (kv.level lv) fin a s (exp_fits e f r L sc d (Unless l (and_pay os pay)) w n le lv fin_v (omega (arith, a.0, ka.at), a.1) s g)
 
     pub operands_fits : (os : Operands) (f : ℕ) (r : Routine) (L : List ℕ) (sc : Scope) (d : ℕ) (aim : Aim) (p : Operand) (w : Writer) (n : ℕ) → n ≤ length w.labels → Level w
         → Fin code f r L n (operands_written os sc d aim p w) → Aimed r L aim (operands_written os sc d aim p w).at → Sees r sc.names → Good code r L w → Good code r L (operands_written os sc d aim p w)
@@ -534,8 +534,8 @@ module _ (code : Code) where
         let kb = block_kept p sc m (Some l) u in
         let t = placed_here (l + 1) b in
         let lt = same_place (l + 1) b (kb.level lu) in
-        let c = exp_written e sc sc.free (Unless l) t in
-        let kc = exp_kept e sc sc.free (Unless l) t in
+        let c = exp_written e sc sc.free (Unless l 0) t in
+        let kc = exp_kept e sc sc.free (Unless l 0) t in
         let o = op.Loop (suc m) (l + 2) in
         let z = put o c in
         let long : l + 3 ≤ length u.labels = omega (arith, three_more v, set_long (l + 2) j) in
@@ -552,7 +552,7 @@ module _ (code : Code) where
         let gv = g_ticked code f r L (l + 3) k w lv fin_v g in
         let gj = g_emit code f r L (l + 3) jo 0 s ls fin_j (omega (arith, cond_at, kb.at), omega (arith, cond_at, fin_b.at)) (g_same code f r L v s refl refl gv) in
         let gb = block_fits p f r L sc m (Some l) u (l + 2) (omega (arith, long)) lu fin_b (omega (arith, out_at, kc.at), omega (arith, out_at, fin_z.at)) sees (g_same code f r L j u refl refl gj) in
-        let gc = exp_fits e f r L sc sc.free (Unless l) t (l + 1) (omega (arith, long, kb.more, set_long (l + 1) b)) lt fin_c (omega (arith, out_at), omega (arith, out_at, fin_z.at)) sees (g_same code f r L b t refl refl gb.0) in
+        let gc = exp_fits e f r L sc sc.free (Unless l 0) t (l + 1) (omega (arith, long, kb.more, set_long (l + 1) b)) lt fin_c (omega (arith, out_at), omega (arith, out_at, fin_z.at)) sees (g_same code f r L b t refl refl gb.0) in
         (g_same code f r L z (placed_here l z) refl refl (g_emit code f r L (l + 1) o 0 c (kc.level lt) fin_z (omega arith, omega (arith, body_at, fin_j.at)) gc), sees)
     stat_fits (source.Repeat p e) f r L sc k exit w n le lv fin x sees g =
         let m = prepay p in
@@ -569,8 +569,8 @@ module _ (code : Code) where
         let kb = block_kept p sc m (Some l) u in
         let lb = kb.level lu in
         let inner = block_known p sc m (Some l) u in
-        let t = exp_written e inner inner.free (Unless (l + 1)) b in
-        let kt = exp_kept e inner inner.free (Unless (l + 1)) b in
+        let t = exp_written e inner inner.free (Unless (l + 1) 0) b in
+        let kt = exp_kept e inner inner.free (Unless (l + 1) 0) b in
         let lt = kt.level lb in
         let jo = op.Jump l in
         let j = put jo t in
@@ -592,7 +592,7 @@ module _ (code : Code) where
         let fin_v = fin_back code f r L (l + 3) v s fin_s (labelled_three v v (kept_self 0 v)) in
         let gv = g_ticked_twice code f r L (l + 3) k m w lv fin_v g in
         let gb = block_fits p f r L sc m (Some l) u (l + 2) (omega (arith, long)) lu fin_b (omega (arith, out_at, kt.at), omega (arith, out_at, fin_z.at)) sees (g_same code f r L v u refl refl gv) in
-        let gt = exp_fits e f r L inner inner.free (Unless (l + 1)) b (l + 2) (omega (arith, long, kb.more)) lb fin_t (omega (arith, again_at), omega (arith, again_at, fin_j.at)) gb.1 gb.0 in
+        let gt = exp_fits e f r L inner inner.free (Unless (l + 1) 0) b (l + 2) (omega (arith, long, kb.more)) lb fin_t (omega (arith, again_at), omega (arith, again_at, fin_j.at)) gb.1 gb.0 in
         let gj = g_emit code f r L (l + 2) jo 0 t lt fin_j (omega (arith, out_at), omega (arith, out_at, fin_z.at)) gt in
         (g_same code f r L z (placed_here l z) refl refl (g_emit code f r L (l + 1) o 0 i li fin_z (omega arith, omega (arith, body_at, fin_v.at)) (g_same code f r L j i refl refl gj)), sees)
     stat_fits (source.If e p others) f r L sc k exit w n le lv fin x sees g =
@@ -603,11 +603,11 @@ module _ (code : Code) where
         let le' : n ≤ l = omega (arith, le, kv.more) in
         let s = labelled (labelled v) in
         let ls : Level s = record { ops = lvv.ops; lines = lvv.lines } in
-        let c = exp_written e sc sc.free (Unless (l + 1)) s in
-        let kc = exp_kept e sc sc.free (Unless (l + 1)) s in
+        let c = exp_written e sc sc.free (Unless (l + 1) (prepay p)) s in
+        let kc = exp_kept e sc sc.free (Unless (l + 1) (prepay p)) s in
         let lc = kc.level ls in
-        let u = block_written p sc 0 exit c in
-        let ku = block_kept p sc 0 exit c in
+        let u = block_written p sc (prepay p) exit c in
+        let ku = block_kept p sc (prepay p) exit c in
         let lu = ku.level lc in
         let h = where_else others l u in
         let kh = k_where_else u u others l (kept_self 0 u) in
@@ -625,8 +625,8 @@ module _ (code : Code) where
         let fin_c = fin_back code f r L (l + 2) c u fin_u ku in
         let fin_v = fin_back code f r L (l + 2) v c fin_c (on v s c (k_labelled v (labelled v) (k_labelled v v (kept_self 0 v))) kc) in
         let gv = g_ticked code f r L (l + 2) k w lv fin_v g in
-        let gc = exp_fits e f r L sc sc.free (Unless (l + 1)) s (l + 2) long ls fin_c (omega (arith, else_at, ku.at, kh.at), omega (arith, else_at, fin_h.at)) sees (g_same code f r L v s refl refl gv) in
-        let gu = block_fits p f r L sc 0 exit c (l + 2) (omega (arith, long, kc.more)) lc fin_u (leaves_less r L exit y.at u.at (omega (arith, kh.at, ky.at)) x) sees gc in
+        let gc = exp_fits e f r L sc sc.free (Unless (l + 1) (prepay p)) s (l + 2) long ls fin_c (omega (arith, else_at, ku.at, kh.at), omega (arith, else_at, fin_h.at)) sees (g_same code f r L v s refl refl gv) in
+        let gu = block_fits p f r L sc (prepay p) exit c (l + 2) (omega (arith, long, kc.more)) lc fin_u (leaves_less r L exit y.at u.at (omega (arith, kh.at, ky.at)) x) sees gc in
         let gh = g_where_else code f r L (l + 2) others l u lu fin_h (omega (arith, out_at, ky.at), omega (arith, out_at, fin_y.at)) gu.0 in
         let gy = else_fits others f r L sc exit l t (l + 1) (omega (arith, long, kc.more, ku.more, kh.more, set_long (l + 1) h)) lt fin_y x (omega (arith, out_at), omega (arith, out_at, fin_y.at)) sees (g_same code f r L h t refl refl gh) in
         (g_same code f r L y (placed_here l y) refl refl gy, sees)
@@ -738,11 +738,11 @@ module _ (code : Code) where
         let l = label_of w in
         let s = labelled w in
         let ls : Level s = record { ops = lv.ops; lines = lv.lines } in
-        let e = exp_written c sc sc.free (Unless l) s in
-        let ke = exp_kept c sc sc.free (Unless l) s in
+        let e = exp_written c sc sc.free (Unless l (prepay p)) s in
+        let ke = exp_kept c sc sc.free (Unless l (prepay p)) s in
         let le2 = ke.level ls in
-        let u = block_written p sc 0 exit e in
-        let ku = block_kept p sc 0 exit e in
+        let u = block_written p sc (prepay p) exit e in
+        let ku = block_kept p sc (prepay p) exit e in
         let lu = ku.level le2 in
         let h = where_else others end u in
         let kh = k_where_else u u others end (kept_self 0 u) in
@@ -756,7 +756,7 @@ module _ (code : Code) where
         let fin_h = fin_below code f r L n l (l + 1) h fin_t (omega arith) (omega (arith, le)) in
         let fin_u = fin_back code f r L (l + 1) u h fin_h kh in
         let fin_e = fin_back code f r L (l + 1) e u fin_u ku in
-        let ge = exp_fits c f r L sc sc.free (Unless l) s (l + 1) long ls fin_e (omega (arith, else_at, ku.at, kh.at), omega (arith, else_at, fin_h.at)) sees (g_same code f r L w s refl refl g) in
-        let gu = block_fits p f r L sc 0 exit e (l + 1) (omega (arith, long, ke.more)) le2 fin_u (leaves_less r L exit y.at u.at (omega (arith, kh.at, ky.at)) x) sees ge in
+        let ge = exp_fits c f r L sc sc.free (Unless l (prepay p)) s (l + 1) long ls fin_e (omega (arith, else_at, ku.at, kh.at), omega (arith, else_at, fin_h.at)) sees (g_same code f r L w s refl refl g) in
+        let gu = block_fits p f r L sc (prepay p) exit e (l + 1) (omega (arith, long, ke.more)) le2 fin_u (leaves_less r L exit y.at u.at (omega (arith, kh.at, ky.at)) x) sees ge in
         let gh = g_where_else code f r L (l + 1) others end u lu fin_h (omega (arith, a.0, ky.at), a.1) gu.0 in
         else_fits others f r L sc exit end t n (omega (arith, le, long, ke.more, ku.more, kh.more, set_long l h)) lt fin x a sees (g_same code f r L h t refl refl gh)

@@ -21,14 +21,14 @@ use Rattle.lua_steps.specs.Stand.{Write, Origin, FromSlot, FromItem, test_op, fr
 use Rattle.lua_compile.specs.declared.aim.Aim.{Aim}
 use Rattle.lua_compile.specs.declared.aim.Aim.TheVariants.{Into, Anywhere, Unless}
 use Rattle.lua_compile.specs.declared.aim.Room.{Room}
-use Rattle.lua_compile.specs.declared.aim.Room.TheVariants.{Nothing, Byte, Word}
+use Rattle.lua_compile.specs.declared.aim.Room.TheVariants.{Nothing, Word}
 use Rattle.lua_compile.specs.declared.aim.Operand.{Operand}
 use Rattle.lua_compile.specs.declared.aim.Operand.TheVariants.{Slot, Constant as Held}
 use Rattle.lua_compile.specs.declared.aim.Want.{Want}
 use Rattle.lua_compile.specs.declared.aim.Want.TheVariants as want
 use Rattle.lua_compile.specs.HasCode.{in_scope, with_names, AreLocals}
 use Rattle.lua_compile.specs.Writer.{Writer, put, lost_if, flag, known, all_known, declare, declare_all, up_from, after_up, seen_inside}
-use Rattle.lua_compile.specs.Forms.{register, is_unless, settled, differ, has_room, int_written, int_shown, int_aimed, true_written, name_shown, name_written, stored, from, stores_written, nils_written, shown, shown_of, on_slot, is_slot, is_short, some_written, binary_written, is_comparison, no_more, test_written, unary_slot, so_far, last_settled, linked, link_aim, is_strict, all_strict, only_shown, called, called_list, wanted_written, where_none, prepay, ticked, ticked_more, paid_before, ticked_twice, is_direct, only_direct, with_targets, directly, jumped, where_else, function_known, numeric_written, generic_written}
+use Rattle.lua_compile.specs.Forms.{register, is_unless, paid_here, settled, differ, has_room, int_written, int_aimed, true_written, name_shown, name_written, stored, from, stores_written, nils_written, shown, shown_of, on_slot, is_slot, some_written, binary_written, is_comparison, no_more, test_written, unary_slot, so_far, last_settled, linked, link_aim, and_aim, is_strict, all_strict, only_shown, called, called_list, wanted_written, where_none, prepay, ticked, ticked_more, paid_before, ticked_twice, is_direct, only_direct, with_targets, directly, jumped, where_else, function_known, numeric_written, generic_written}
 use Rattle.lua_compile.proofs.Final.{and_left, and_right}
 
 -- nothing was lost, and each local goes to a cell
@@ -126,10 +126,14 @@ s_declare_all [] sc w g = g
 s_declare_all (x ∷ xs) sc w g = s_declare_all xs (known x sc w.flags w.locals) (declare sc w) (s_declare sc w g)
 
 -- ---- values
+s_paid : (pay : ℕ) (w : Writer) → Sound w → Sound (paid_here pay w)
+s_paid zero w g = g
+s_paid (suc k) w g = g
+
 pub s_settled : (aim : Aim) (r : ℕ) (w : Writer) → Sound w → Sound (settled aim r w)
 s_settled (Into s) r w g = g
 s_settled (Anywhere room) r w g = g
-s_settled (Unless l) r w g = g
+s_settled (Unless l pay) r w g = s_paid pay (put (op.Test r l) w) g
 
 pub s_int : (r : ℕ) (n : ℤ) (w : Writer) → Sound w → Sound (int_written r n w)
 s_int r n w g = s_if (has_room Word n) _ _ g g
@@ -137,12 +141,12 @@ s_int r n w g = s_if (has_room Word n) _ _ g g
 pub s_aimed : (n : ℤ) (d : ℕ) (aim : Aim) (w : Writer) → Sound w → Sound (int_aimed n d aim w)
 s_aimed n d (Into r) w g = s_int r n w g
 s_aimed n d (Anywhere room) w g = s_if (has_room room n) w (int_written d n w) g (s_int d n w g)
-s_aimed n d (Unless l) w g = g
+s_aimed n d (Unless l pay) w g = s_paid pay w g
 
 pub s_true : (d : ℕ) (aim : Aim) (w : Writer) → Sound w → Sound (true_written d aim w)
 s_true d (Into r) w g = g
 s_true d (Anywhere room) w g = g
-s_true d (Unless l) w g = g
+s_true d (Unless l pay) w g = s_paid pay w g
 
 pub s_name : (o : Option Place) (d : ℕ) (aim : Aim) (w : Writer) → IsFound o → Sound w → Sound (name_written o d aim w)
 s_name None d aim w h g = absurd h
@@ -254,17 +258,22 @@ s_on (Held n) w go h f = absurd h
 abbrev pub AimFits : Exp → Aim → ℕ → Type 0
 AimFits e (Into r) d = (r ≡ d) ⊎ (is_direct e ≡ true)
 AimFits e (Anywhere room) d = Unit {0}
-AimFits e (Unless l) d = Unit {0}
+AimFits e (Unless l pay) d = Unit {0}
 
 pub unless_fits : (e : Exp) (aim : Aim) (d : ℕ) → is_unless aim ≡ true → AimFits e aim d
 unless_fits e (Into r) d h = absurd (cc)
 unless_fits e (Anywhere room) d h = tt
-unless_fits e (Unless l) d h = tt
+unless_fits e (Unless l pay) d h = tt
+
+pub and_unless : (os : Operands) (aim : Aim) → is_unless aim ≡ true → is_unless (and_aim os aim) ≡ true
+and_unless os (Into r) h = h
+and_unless os (Anywhere room) h = h
+and_unless os (Unless l pay) h = refl
 
 pub paren_fits : (e : Exp) (aim : Aim) (d : ℕ) → AimFits (source.Paren e) aim d → AimFits e aim d
 paren_fits e (Into r) d h = h
 paren_fits e (Anywhere room) d h = tt
-paren_fits e (Unless l) d h = tt
+paren_fits e (Unless l pay) d h = tt
 
 -- a call's value comes to the first free slot
 not_direct : (r d : ℕ) (e : Exp) → is_direct e ≡ false → (r ≡ d) ⊎ (is_direct e ≡ true) → r ≡ d
@@ -274,12 +283,12 @@ not_direct r d e f (inr h) = absurd (cc)
 pub call_fits : (e : Exp) (ss : Suffixes) (aim : Aim) (d : ℕ) → AimFits (source.Suffixed e ss) aim d → register aim d ≡ d
 call_fits e ss (Into r) d h = not_direct r d (source.Suffixed e ss) refl h
 call_fits e ss (Anywhere room) d h = refl
-call_fits e ss (Unless l) d h = refl
+call_fits e ss (Unless l pay) d h = refl
 
 abbrev pub ChainFits : Operands → Aim → ℕ → Type 0
 ChainFits os (Into r) d = (r ≡ d) ⊎ (all_strict os ≡ true)
 ChainFits os (Anywhere room) d = Unit {0}
-ChainFits os (Unless l) d = Unit {0}
+ChainFits os (Unless l pay) d = Unit {0}
 
 some_strict : (r d : ℕ) (os : Operands) → (r ≡ d) ⊎ ((all_strict os && not (no_more os)) ≡ true) → (r ≡ d) ⊎ (all_strict os ≡ true)
 some_strict r d os (inl h) = inl h
@@ -288,7 +297,7 @@ some_strict r d os (inr h) = inr (and_left (all_strict os) (not (no_more os)) h)
 pub chain_fits : (e : Exp) (os : Operands) (aim : Aim) (d : ℕ) → AimFits (source.Chain e os) aim d → ChainFits os aim d
 chain_fits e os (Into r) d h = some_strict r d os h
 chain_fits e os (Anywhere room) d h = tt
-chain_fits e os (Unless l) d h = tt
+chain_fits e os (Unless l pay) d h = tt
 
 less_strict : (lk : Link) (r d : ℕ) (os : Operands) → (r ≡ d) ⊎ ((is_strict lk && all_strict os) ≡ true) → (r ≡ d) ⊎ (all_strict os ≡ true)
 less_strict lk r d os (inl h) = inl h
@@ -301,13 +310,13 @@ not_strict lk b r d f (inr h) = (let t = and_left (is_strict lk) b h in absurd (
 pub chain_rest : (o : BinaryOp) (line : ℕ) (e : Exp) (os : Operands) (aim : Aim) (d : ℕ) → ChainFits (MoreOperands o line e os) aim d → ChainFits os aim d
 chain_rest o line e os (Into r) d h = less_strict (link_of o) r d os h
 chain_rest o line e os (Anywhere room) d h = tt
-chain_rest o line e os (Unless l) d h = tt
+chain_rest o line e os (Unless l pay) d h = tt
 
 -- `and` and `or` leave their value in the first free slot
 pub chain_free : (o : BinaryOp) (line : ℕ) (e : Exp) (os : Operands) (aim : Aim) (d : ℕ) → ChainFits (MoreOperands o line e os) aim d → is_strict (link_of o) ≡ false → register aim d ≡ d
 chain_free o line e os (Into r) d h f = not_strict (link_of o) (all_strict os) r d f h
 chain_free o line e os (Anywhere room) d h f = refl
-chain_free o line e os (Unless l) d h f = refl
+chain_free o line e os (Unless l pay) d h f = refl
 
 -- the aim of what stands before an operator
 pub link_fits : (lk : Link) (e : Exp) (d : ℕ) → AimFits e (link_aim lk d) d
@@ -363,31 +372,31 @@ s_binary u r (Slot x) (Slot y) line w h g = s_if (ltb r 256 && ltb x 256 && ltb 
 s_binary u r (Slot x) (Held n) line w h g = g
 s_binary u r (Held n) q line w h g = absurd h
 
-s_compare : (u : Binary) (x : ℕ) (q : Operand) (l line : ℕ) (w : Writer) → is_comparison u ≡ true → Sound w → Sound (some_written (test_op u (shown_of (Slot x)) (shown_of q) 0 l) line w)
-s_compare binary.Less x (Slot y) l line w h g = g
-s_compare binary.Less x (Held n) l line w h g = g
-s_compare binary.LessEqual x (Slot y) l line w h g = g
-s_compare binary.LessEqual x (Held n) l line w h g = g
-s_compare binary.Greater x (Slot y) l line w h g = g
-s_compare binary.Greater x (Held n) l line w h g = g
-s_compare binary.GreaterEqual x (Slot y) l line w h g = g
-s_compare binary.GreaterEqual x (Held n) l line w h g = g
-s_compare binary.Equal x (Slot y) l line w h g = g
-s_compare binary.Equal x (Held n) l line w h g = g
-s_compare binary.NotEqual x (Slot y) l line w h g = g
-s_compare binary.NotEqual x (Held n) l line w h g = g
-s_compare u x q l line w h g = absurd (cc)
+s_compare : (u : Binary) (x : ℕ) (q : Operand) (pay l line : ℕ) (w : Writer) → is_comparison u ≡ true → Sound w → Sound (some_written (test_op u (shown_of (Slot x)) (shown_of q) pay l) line w)
+s_compare binary.Less x (Slot y) pay l line w h g = g
+s_compare binary.Less x (Held n) pay l line w h g = g
+s_compare binary.LessEqual x (Slot y) pay l line w h g = g
+s_compare binary.LessEqual x (Held n) pay l line w h g = g
+s_compare binary.Greater x (Slot y) pay l line w h g = g
+s_compare binary.Greater x (Held n) pay l line w h g = g
+s_compare binary.GreaterEqual x (Slot y) pay l line w h g = g
+s_compare binary.GreaterEqual x (Held n) pay l line w h g = g
+s_compare binary.Equal x (Slot y) pay l line w h g = g
+s_compare binary.Equal x (Held n) pay l line w h g = g
+s_compare binary.NotEqual x (Slot y) pay l line w h g = g
+s_compare binary.NotEqual x (Held n) pay l line w h g = g
+s_compare u x q pay l line w h g = absurd (cc)
 
 pub s_test_written : (u : Binary) (p q : Operand) (aim : Aim) (line : ℕ) (w : Writer) → is_comparison u ≡ true → is_unless aim ≡ true → InASlot p → Sound w → Sound (test_written u p q aim line w)
-s_test_written u (Slot x) q (Unless l) line w h un s g = s_compare u x q l line w h g
-s_test_written u (Held n) q (Unless l) line w h un s g = absurd s
+s_test_written u (Slot x) q (Unless l pay) line w h un s g = s_compare u x q pay l line w h g
+s_test_written u (Held n) q (Unless l pay) line w h un s g = absurd s
 s_test_written u p q (Into r) line w h un s g = absurd (cc)
 s_test_written u p q (Anywhere room) line w h un s g = absurd (cc)
 
 pub s_unary : (u : Unary) (x d : ℕ) (aim : Aim) (line : ℕ) (w : Writer) → Sound w → Sound (unary_slot u x d aim line w)
 s_unary unary.Not x d (Into r) line w g = g
 s_unary unary.Not x d (Anywhere room) line w g = g
-s_unary unary.Not x d (Unless l) line w g = g
+s_unary unary.Not x d (Unless l pay) line w g = s_paid pay (put (op.TestNot x l) w) g
 s_unary u x d aim line w g = s_settled aim (register aim d) _ g
 
 -- ---- calls

@@ -21,10 +21,10 @@ use Rattle.lua_compile.specs.declared.aim.Want.{Want}
 use Rattle.lua_compile.specs.declared.aim.Want.TheVariants as want
 use Rattle.lua_compile.specs.HasCode.{with_names, names_after, names_at_end, names_inside, ExpHasCode, OperandsHaveCode, SuffixesHaveCode, ExpsHaveCode, BodyHasCode, BlockHasCode, StatsHaveCode, StatHasCode, BranchesHaveCode, HasCode}
 use Rattle.lua_compile.specs.Writer.{Writer, put, labelled, label_of, placed_here, lost_if, counted, flag, all_known, declare_all, seen_inside, begun}
-use Rattle.lua_compile.specs.Forms.{register, is_unless, differ, int_written, nils_written, shown, on_slot, is_slot, is_comparison, is_short, binary_written, tests, room_for, test_written, unary_slot, so_far, last_settled, base_aim, is_strict, all_and, no_more, is_many, count, slots_fit, targets_fit, is_only, is_tail, only_shown, suffix_want, called, called_list, where_none, prepay, ticked, ticked_more, paid_before, ticked_twice, only_direct, only_slot, directly, where_else, function_known, stores_written}
+use Rattle.lua_compile.specs.Forms.{register, is_unless, differ, int_written, nils_written, shown, on_slot, is_slot, is_comparison, is_short, binary_written, tests, room_for, test_written, unary_slot, so_far, last_settled, base_aim, and_aim, is_strict, all_and, no_more, is_many, count, slots_fit, targets_fit, is_only, is_tail, only_shown, suffix_want, called, called_list, where_none, prepay, ticked, ticked_more, paid_before, ticked_twice, only_direct, only_slot, directly, where_else, function_known, stores_written}
 use Rattle.lua_compile.specs.Written.{exp_written, ands_written, operands_written, suffixes_written, fixed_written, values_written, many_written, list_written, all_written, tail_written, only_written, body_written, block_written, block_known, stats_written, stats_known, stat_written, stat_known, else_written, opening, chunk_written}
 use Rattle.lua_compile.proofs.Final.{and_left, and_right}
-use Rattle.lua_compile.proofs.FoundForms.{Sound, no_difference, s_lost_if, s_if, s_test, Sees, place_found, sees_inside, all_seen, function_seen, s_declare_all, s_settled, s_int, s_aimed, s_true, s_name, s_stores, slots_seen, items_seen, targets_seen, s_targets, s_directly, s_nils, InASlot, in_a_slot, only_in_a_slot, s_on, AimFits, unless_fits, paren_fits, call_fits, ChainFits, chain_fits, chain_rest, chain_free, link_fits, BeginsBy, base_begins, slot_begins, is_there, s_link, so_far_ends, free_ends, s_last, s_binary, s_test_written, s_unary, s_called, s_called_list, s_none, PaidFor, PaidIn, prepaid, unpaid, unpaid_for, still_paid, s_ticked, s_ticked_more, s_ticked_twice, MayLeave, s_jumped, s_where_else, OnlyFits, direct_fits, anywhere_fits, s_numeric, s_generic}
+use Rattle.lua_compile.proofs.FoundForms.{Sound, no_difference, s_lost_if, s_if, s_test, Sees, place_found, sees_inside, all_seen, function_seen, s_declare_all, s_settled, s_int, s_aimed, s_true, s_name, s_stores, slots_seen, items_seen, targets_seen, s_targets, s_directly, s_nils, InASlot, in_a_slot, only_in_a_slot, s_on, AimFits, unless_fits, and_unless, paren_fits, call_fits, ChainFits, chain_fits, chain_rest, chain_free, link_fits, BeginsBy, base_begins, slot_begins, is_there, s_link, so_far_ends, free_ends, s_last, s_binary, s_test_written, s_unary, s_called, s_called_list, s_none, PaidFor, PaidIn, prepaid, unpaid, unpaid_for, still_paid, s_ticked, s_ticked_more, s_ticked_twice, MayLeave, s_jumped, s_where_else, OnlyFits, direct_fits, anywhere_fits, s_numeric, s_generic}
 
 -- the value so far is where the next operator of the chain takes it
 abbrev pub StartsAt : Operands → Operand → ℕ → Type 0
@@ -93,20 +93,22 @@ mutual
       s_on (shown e sc.names d (Anywhere Nothing)) v (λ x. unary_slot (unary_of o) x d aim line v) (in_a_slot e sc.names d)
       (λ x. s_unary (unary_of o) x d aim line v (exp_found e ns h sc s d (Anywhere Nothing) w tt g))
   exp_found (source.Chain e os) ns h sc s d aim w a g =
-      let ands = ands_written os sc d aim (exp_written e sc d aim w) in
+      let ands = ands_written os sc d aim (exp_written e sc d (and_aim os aim) w) in
       let p = shown e sc.names d (base_aim os aim d) in
       let all = operands_written os sc d aim p (exp_written e sc d (base_aim os aim d) w) in
       s_test (no_more os) (lost_if true w) (if is_unless aim && all_and os then ands else all) (λ t. absurd (cc)) (λ f.
       s_test (is_unless aim && all_and os) ands all
       (λ t. let un = and_left (is_unless aim) (all_and os) t in
-      ands_found os ns h.2 sc s d aim un (exp_written e sc d aim w) (exp_found e ns h.1 sc s d aim w (unless_fits e aim d un) g))
+      let first = and_aim os aim in
+      ands_found os ns h.2 sc s d aim un (exp_written e sc d first w) (exp_found e ns h.1 sc s d first w (unless_fits e first d (and_unless os aim un)) g))
       (λ t. operands_found os ns h.2 sc s d aim p _ (chain_fits e os aim d a) (base_starts os e aim sc.names d)
       (exp_found e ns h.1 sc s d (base_aim os aim d) w (base_fits os e aim d) g)))
 
   pub ands_found : (os : Operands) (ns : List Text) → OperandsHaveCode os ns → (sc : Scope) → Sees sc.names ns → (d : ℕ) (aim : Aim) → is_unless aim ≡ true → (w : Writer) → Sound w → Sound (ands_written os sc d aim w)
   ands_found NoOperand ns h sc s d aim un w g = g
   ands_found (MoreOperands o line e os) ns h sc s d aim un w g =
-      ands_found os ns h.1 sc s d aim un (exp_written e sc d aim w) (exp_found e ns h.0 sc s d aim w (unless_fits e aim d un) g)
+      let a = and_aim os aim in
+      ands_found os ns h.1 sc s d aim un (exp_written e sc d a w) (exp_found e ns h.0 sc s d a w (unless_fits e a d (and_unless os aim un)) g)
 
   pub operands_found : (os : Operands) (ns : List Text) → OperandsHaveCode os ns → (sc : Scope) → Sees sc.names ns → (d : ℕ) (aim : Aim) (p : Operand) (w : Writer) → ChainFits os aim d → StartsAt os p d → Sound w
       → Sound (operands_written os sc d aim p w)
@@ -260,21 +262,21 @@ mutual
       let l = label_of v in
       let u = placed_here (l + 2) (put (op.Jump (l + 1)) (labelled (labelled (labelled v)))) in
       let b = block_found p ns true h.1 sc s (prepay p) (Some l) u (prepaid p) tt (s_ticked k w t g) in
-      (exp_found e ns h.0 sc s sc.free (Unless l) (placed_here (l + 1) (block_written p sc (prepay p) (Some l) u)) tt b.0, s)
+      (exp_found e ns h.0 sc s sc.free (Unless l 0) (placed_here (l + 1) (block_written p sc (prepay p) (Some l) u)) tt b.0, s)
   stat_found (source.Repeat p e) ns loop h sc s k exit w t x g =
       let v = ticked_twice k (prepay p) w in
       let l = label_of v in
       let u = placed_here (l + 2) (labelled (labelled (labelled v))) in
       let b = block_found p ns true h.0 sc s (prepay p) (Some l) u (prepaid p) tt (s_ticked_twice k (prepay p) w t g) in
       let inner = block_known p sc (prepay p) (Some l) u in
-      (exp_found e (names_inside p ns) h.1 inner b.1 inner.free (Unless (l + 1)) (block_written p sc (prepay p) (Some l) u) tt b.0, s)
+      (exp_found e (names_inside p ns) h.1 inner b.1 inner.free (Unless (l + 1) 0) (block_written p sc (prepay p) (Some l) u) tt b.0, s)
   stat_found (source.If e p others) ns loop h sc s k exit w t x g =
       let v = ticked k w in
       let l = label_of v in
-      let c = exp_written e sc sc.free (Unless (l + 1)) (labelled (labelled v)) in
-      let gc = exp_found e ns h.0 sc s sc.free (Unless (l + 1)) (labelled (labelled v)) tt (s_ticked k w t g) in
-      let u = block_written p sc 0 exit c in
-      let gu = (block_found p ns loop h.1 sc s 0 exit c (unpaid p) x gc).0 in
+      let c = exp_written e sc sc.free (Unless (l + 1) (prepay p)) (labelled (labelled v)) in
+      let gc = exp_found e ns h.0 sc s sc.free (Unless (l + 1) (prepay p)) (labelled (labelled v)) tt (s_ticked k w t g) in
+      let u = block_written p sc (prepay p) exit c in
+      let gu = (block_found p ns loop h.1 sc s (prepay p) exit c (prepaid p) x gc).0 in
       (else_found others ns loop h.2 sc s exit l (placed_here (l + 1) (where_else others l u)) x (s_where_else others l u gu), s)
   stat_found (source.Numeric y first limit p line) ns loop h sc s k exit w t x g =
       let v = exp_written first sc sc.free (Into sc.free) (ticked k w) in
@@ -318,10 +320,10 @@ mutual
   else_found (Else p) ns loop h sc s exit end w x g = (block_found p ns loop h sc s 0 exit w (unpaid p) x g).0
   else_found (Elseif e p others) ns loop h sc s exit end w x g =
       let l = label_of w in
-      let c = exp_written e sc sc.free (Unless l) (labelled w) in
-      let gc = exp_found e ns h.0 sc s sc.free (Unless l) (labelled w) tt g in
-      let u = block_written p sc 0 exit c in
-      let gu = (block_found p ns loop h.1 sc s 0 exit c (unpaid p) x gc).0 in
+      let c = exp_written e sc sc.free (Unless l (prepay p)) (labelled w) in
+      let gc = exp_found e ns h.0 sc s sc.free (Unless l (prepay p)) (labelled w) tt g in
+      let u = block_written p sc (prepay p) exit c in
+      let gu = (block_found p ns loop h.1 sc s (prepay p) exit c (prepaid p) x gc).0 in
       else_found others ns loop h.2 sc s exit end (placed_here l (where_else others end u)) x (s_where_else others end u gu)
 
 pub chunk_found : (b : Block) → HasCode b → (chunk_written [] b).lost ≡ false

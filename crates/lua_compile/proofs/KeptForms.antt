@@ -23,7 +23,7 @@ use Rattle.lua_compile.specs.declared.aim.Operand.TheVariants.{Slot, Constant as
 use Rattle.lua_compile.specs.declared.aim.Want.{Want}
 use Rattle.lua_compile.specs.declared.aim.Want.TheVariants as want
 use Rattle.lua_compile.specs.Writer.{Writer, emit, put, labelled, with_constant, lost_if, counted, done, resumed, declare, declare_all, known, flag}
-use Rattle.lua_compile.specs.Forms.{register, settled, int_written, int_aimed, has_room, true_written, slot_written, name_written, stored, from, stores_written, nils_written, on_slot, some_written, or_else, shown_of, differ, binary_written, test_written, unary_slot, last_settled, linked, called, called_list, wanted_written, where_none, ticked, ticked_more, ticked_twice, with_targets, directly, jumped, where_else}
+use Rattle.lua_compile.specs.Forms.{register, paid_here, settled, int_written, int_aimed, has_room, true_written, slot_written, name_written, stored, from, stores_written, nils_written, on_slot, some_written, or_else, shown_of, differ, binary_written, test_written, unary_slot, last_settled, linked, called, called_list, wanted_written, where_none, ticked, ticked_more, ticked_twice, with_targets, directly, jumped, where_else}
 use Rattle.lua_compile.proofs.Kept.{Kept, kept_then, kept_emit, kept_labelled, get_front}
 
 -- w stands in v
@@ -132,10 +132,14 @@ pub k_if : (w x y : Writer) (b : Bool) → K w x → K w y → K w (if b then x 
 k_if w x y true p q = p
 k_if w x y false p q = q
 
+pub k_paid : (w v : Writer) (pay : ℕ) → K w v → K w (paid_here pay v)
+k_paid w v zero a = a
+k_paid w v (suc k) a = k_put w v (op.Tick (suc k)) a
+
 pub k_settled : (w v : Writer) (aim : Aim) (r : ℕ) → K w v → K w (settled aim r v)
 k_settled w v (Into s) r a = a
 k_settled w v (Anywhere room) r a = a
-k_settled w v (Unless l) r a = k_put w v (op.Test r l) a
+k_settled w v (Unless l pay) r a = k_paid w (put (op.Test r l) v) pay (k_put w v (op.Test r l) a)
 
 pub k_int : (w v : Writer) (r : ℕ) (n : ℤ) (b : Bool) → K w v → K w (if b then put (op.Int r n) v else put (op.Constant r (length v.draft.constants)) (with_constant (constant.Int n) v))
 k_int w v r n true a = k_put w v (op.Int r n) a
@@ -144,17 +148,17 @@ k_int w v r n false a = k_put w (with_constant (constant.Int n) v) (op.Constant 
 pub k_aimed : (w v : Writer) (n : ℤ) (d : ℕ) (aim : Aim) → K w v → K w (int_aimed n d aim v)
 k_aimed w v n d (Into r) a = k_int w v r n _ a
 k_aimed w v n d (Anywhere room) a = k_if w v (int_written d n v) (has_room room n) a (k_int w v d n _ a)
-k_aimed w v n d (Unless l) a = a
+k_aimed w v n d (Unless l pay) a = k_paid w v pay a
 
 pub k_true : (w v : Writer) (d : ℕ) (aim : Aim) → K w v → K w (true_written d aim v)
 k_true w v d (Into r) a = k_put w v (op.Bool r true) a
 k_true w v d (Anywhere room) a = k_put w v (op.Bool d true) a
-k_true w v d (Unless l) a = a
+k_true w v d (Unless l pay) a = k_paid w v pay a
 
 k_slot : (w v : Writer) (s d : ℕ) (aim : Aim) → K w v → K w (slot_written s d aim v)
 k_slot w v s d (Into r) a = k_put w v (op.Move r s) a
 k_slot w v s d (Anywhere room) a = a
-k_slot w v s d (Unless l) a = k_put w v (op.Test s l) a
+k_slot w v s d (Unless l pay) a = k_paid w (put (op.Test s l) v) pay (k_put w v (op.Test s l) a)
 
 pub k_name : (w v : Writer) (o : Option Place) (d : ℕ) (aim : Aim) → K w v → K w (name_written o d aim v)
 k_name w v (Some (InSlot s)) d aim a = k_slot w v s d aim a
@@ -198,12 +202,12 @@ k_binary w v o r (Slot x) (Held n) line a = k_emit w v (int_op o r x n) line a
 k_binary w v o r (Held n) q line a = k_lost w v true a
 
 pub k_test : (w v : Writer) (o : Binary) (p q : Operand) (aim : Aim) (line : ℕ) → K w v → K w (test_written o p q aim line v)
-k_test w v o p q (Unless l) line a = k_some w v (test_op o (shown_of p) (shown_of q) 0 l) line a
+k_test w v o p q (Unless l pay) line a = k_some w v (test_op o (shown_of p) (shown_of q) pay l) line a
 k_test w v o p q (Into r) line a = k_lost w v true a
 k_test w v o p q (Anywhere room) line a = k_lost w v true a
 
 pub k_unary : (w v : Writer) (o : Unary) (x d : ℕ) (aim : Aim) (line : ℕ) → K w v → K w (unary_slot o x d aim line v)
-k_unary w v unary.Not x d (Unless l) line a = k_put w v (op.TestNot x l) a
+k_unary w v unary.Not x d (Unless l pay) line a = k_paid w (put (op.TestNot x l) v) pay (k_put w v (op.TestNot x l) a)
 k_unary w v unary.Not x d (Into r) line a = k_emit w v (op.Unary unary.Not r x) line a
 k_unary w v unary.Not x d (Anywhere room) line a = k_emit w v (op.Unary unary.Not d x) line a
 k_unary w v o x d aim line a = k_settled w (emit (op.Unary o (register aim d) x) line v) aim (register aim d) (k_emit w v (op.Unary o (register aim d) x) line a)

@@ -19,7 +19,7 @@ use Rattle.lua_compile.specs.declared.aim.Operand.TheVariants.{Slot}
 use Rattle.lua_compile.specs.declared.aim.Want.{Want}
 use Rattle.lua_compile.specs.declared.aim.Want.TheVariants as want
 use Rattle.lua_compile.specs.Writer.{Writer, emit, put, labelled, label_of, placed_here, with_constant, lost_if, counted, flag, all_known, declare_all, seen_inside, begun, resumed}
-use Rattle.lua_compile.specs.Forms.{register, is_unless, differ, int_written, has_room, stores_written, nils_written, shown, on_slot, is_slot, binary_written, tests, room_for, test_written, unary_slot, so_far, last_settled, base_aim, all_and, no_more, is_many, count, slots_fit, targets_fit, is_only, is_tail, only_shown, suffix_want, called, called_list, prepay, ticked, ticked_more, paid_before, ticked_twice, only_direct, only_slot, directly, where_else, function_known, close_op, numeric_written, generic_written}
+use Rattle.lua_compile.specs.Forms.{register, is_unless, differ, int_written, has_room, stores_written, nils_written, shown, on_slot, is_slot, binary_written, tests, room_for, test_written, unary_slot, so_far, last_settled, base_aim, and_aim, all_and, no_more, is_many, count, slots_fit, targets_fit, is_only, is_tail, only_shown, suffix_want, called, called_list, prepay, ticked, ticked_more, paid_before, ticked_twice, only_direct, only_slot, directly, where_else, function_known, close_op, numeric_written, generic_written}
 use Rattle.lua_compile.specs.Written.{exp_written, ands_written, operands_written, suffixes_written, fixed_written, values_written, many_written, list_written, all_written, tail_written, only_written, body_written, block_written, block_known, stats_written, stats_known, stat_written, stat_known, else_written}
 use Rattle.lua_compile.proofs.Kept.{kept_self, kept_then, kept_placed_new}
 use Rattle.lua_compile.proofs.KeptForms.{K, Inner, k_emit, k_put, k_labelled, k_constant, k_lost, k_counted, k_resumed, k_if, k_settled, k_int, k_aimed, k_true, k_name, k_stores, k_nils, k_on, k_binary, k_test, k_unary, k_last, k_linked, k_called, k_called_list, k_none, k_ticked, k_ticked_more, k_ticked_twice, k_targets, k_directly, k_jumped, k_where_else, k_declare_all}
@@ -89,18 +89,20 @@ mutual
       let k = exp_kept e sc d (Anywhere Nothing) w in
       k_on w v (shown e sc.names d (Anywhere Nothing)) (λ x. unary_slot (unary_of o) x d aim line v) k (λ x. k_unary w v (unary_of o) x d aim line k)
   exp_kept (source.Chain e os) sc d aim w =
-      let v = exp_written e sc d aim w in
+      let first = and_aim os aim in
+      let v = exp_written e sc d first w in
       let u = exp_written e sc d (base_aim os aim d) w in
       let p = shown e sc.names d (base_aim os aim d) in
       k_if w (lost_if true w) (if is_unless aim && all_and os then ands_written os sc d aim v else operands_written os sc d aim p u) (no_more os)
       (k_lost w w true (kept_self 0 w))
       (k_if w (ands_written os sc d aim v) (operands_written os sc d aim p u) (is_unless aim && all_and os)
-      (on w v _ (exp_kept e sc d aim w) (ands_kept os sc d aim v))
+      (on w v _ (exp_kept e sc d first w) (ands_kept os sc d aim v))
       (on w u _ (exp_kept e sc d (base_aim os aim d) w) (operands_kept os sc d aim p u)))
 
   pub ands_kept : (os : Operands) (sc : Scope) (d : ℕ) (aim : Aim) (w : Writer) → K w (ands_written os sc d aim w)
   ands_kept NoOperand sc d aim w = kept_self 0 w
-  ands_kept (MoreOperands o line e os) sc d aim w = on w (exp_written e sc d aim w) _ (exp_kept e sc d aim w) (ands_kept os sc d aim (exp_written e sc d aim w))
+  ands_kept (MoreOperands o line e os) sc d aim w =
+      let v = exp_written e sc d (and_aim os aim) w in on w v _ (exp_kept e sc d (and_aim os aim) w) (ands_kept os sc d aim v)
 
   pub operands_kept : (os : Operands) (sc : Scope) (d : ℕ) (aim : Aim) (p : Operand) (w : Writer) → K w (operands_written os sc d aim p w)
   operands_kept NoOperand sc d aim p w = kept_self 0 w
@@ -259,7 +261,7 @@ mutual
       let b = block_written p sc (prepay p) (Some l) u in
       let t = placed_here (l + 1) b in
       let kt = placed w v b 1 kv (on w u b ku (block_kept p sc (prepay p) (Some l) u)) in
-      placed_first w v _ kv (k_put w _ (op.Loop (suc (prepay p)) (l + 2)) (on w t _ kt (exp_kept e sc sc.free (Unless l) t)))
+      placed_first w v _ kv (k_put w _ (op.Loop (suc (prepay p)) (l + 2)) (on w t _ kt (exp_kept e sc sc.free (Unless l 0) t)))
   stat_kept (source.Repeat p e) sc k exit w =
       let v = ticked_twice k (prepay p) w in
       let kv = k_ticked_twice w w k (prepay p) (kept_self 0 w) in
@@ -268,18 +270,18 @@ mutual
       let ku = placed w v (labelled (labelled (labelled v))) 2 kv (labelled_three w v kv) in
       let inner = block_known p sc (prepay p) (Some l) u in
       let b = block_written p sc (prepay p) (Some l) u in
-      let t = exp_written e inner inner.free (Unless (l + 1)) b in
-      let kt = on w b t (on w u b ku (block_kept p sc (prepay p) (Some l) u)) (exp_kept e inner inner.free (Unless (l + 1)) b) in
+      let t = exp_written e inner inner.free (Unless (l + 1) 0) b in
+      let kt = on w b t (on w u b ku (block_kept p sc (prepay p) (Some l) u)) (exp_kept e inner inner.free (Unless (l + 1) 0) b) in
       placed_first w v _ kv (k_put w _ (op.Loop (suc (prepay p)) (l + 2)) (placed w v (put (op.Jump l) t) 1 kv (k_put w t (op.Jump l) kt)))
   stat_kept (source.If e p others) sc k exit w =
       let v = ticked k w in
       let kv = k_ticked w w k (kept_self 0 w) in
       let l = label_of v in
       let s = labelled (labelled v) in
-      let c = exp_written e sc sc.free (Unless (l + 1)) s in
-      let kc = on w s c (k_labelled w _ (k_labelled w v kv)) (exp_kept e sc sc.free (Unless (l + 1)) s) in
-      let u = block_written p sc 0 exit c in
-      let ku = on w c u kc (block_kept p sc 0 exit c) in
+      let c = exp_written e sc sc.free (Unless (l + 1) (prepay p)) s in
+      let kc = on w s c (k_labelled w _ (k_labelled w v kv)) (exp_kept e sc sc.free (Unless (l + 1) (prepay p)) s) in
+      let u = block_written p sc (prepay p) exit c in
+      let ku = on w c u kc (block_kept p sc (prepay p) exit c) in
       let t = placed_here (l + 1) (where_else others l u) in
       let kt = placed w v (where_else others l u) 1 kv (k_where_else w u others l ku) in
       placed_first w v _ kv (on w t _ kt (else_kept others sc exit l t))
@@ -318,9 +320,9 @@ mutual
   else_kept (Elseif e p others) sc exit end w =
       let l = label_of w in
       let s = labelled w in
-      let c = exp_written e sc sc.free (Unless l) s in
-      let kc = on w s c (k_labelled w w (kept_self 0 w)) (exp_kept e sc sc.free (Unless l) s) in
-      let u = block_written p sc 0 exit c in
-      let ku = on w c u kc (block_kept p sc 0 exit c) in
+      let c = exp_written e sc sc.free (Unless l (prepay p)) s in
+      let kc = on w s c (k_labelled w w (kept_self 0 w)) (exp_kept e sc sc.free (Unless l (prepay p)) s) in
+      let u = block_written p sc (prepay p) exit c in
+      let ku = on w c u kc (block_kept p sc (prepay p) exit c) in
       let t = placed_here l (where_else others end u) in
       on w t _ (placed_first w w _ (kept_self 0 w) (k_where_else w u others end ku)) (else_kept others sc exit end t)

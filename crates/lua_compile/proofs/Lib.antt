@@ -4,6 +4,7 @@ pub mod KeptTerms
 pub mod Final
 pub mod ServesForms
 pub mod ServesParts
+pub mod ServesTicks
 pub mod ServesRest
 pub mod ServesLoops
 pub mod ServesTerms

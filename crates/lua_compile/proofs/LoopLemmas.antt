@@ -6,8 +6,8 @@ use Rattle.std.specs.declared.result.Result.{Result}
 use Rattle.std.specs.declared.result.Result.TheVariants as result
 use Rattle.lua_tree.specs.Source.{MoreExps, NoExp}
 use Rattle.lua_tree.specs.Source as source
-use Rattle.lua_tree.specs.View.{exps_of, exp_of, operands_of, operand_of, stats_of, stat_of, block_of, block_with, body_of, generic_of, numeric_with}
-use Rattle.lua_tree.proofs.Views.{function_seen, unary_seen, block_seen, generic_seen, local_function_seen}
+use Rattle.lua_tree.specs.View.{Applied, exps_of, exp_of, operands_of, operand_of, stats_of, stat_of, block_of, body_of, generic_of, numeric_with}
+use Rattle.lua_tree.proofs.Views.{function_seen, unary_seen, block_seen, generic_seen, local_function_seen, operand_seen}
 use Rattle.lua_tree.specs.declared.tree.Expr.TheVariants as expr
 use Rattle.lua_tree.specs.declared.tree.Stat.{Stat}
 use Rattle.lua_tree.specs.declared.tree.Stat.TheVariants as stat
@@ -27,9 +27,9 @@ use Rattle.lua_compile.specs.declared.aim.Room.TheVariants.{Nothing}
 use Rattle.lua_compile.specs.Writer.{Writer, put, resumed}
 use Rattle.lua_compile.specs.declared.aim.Aim.{Aim}
 use Rattle.lua_compile.specs.declared.aim.Operand.{Operand}
-use Rattle.lua_compile.specs.Forms.{shown, on_slot, unary_slot, settled, register, prepay, ticked, generic_written, numeric_written}
+use Rattle.lua_compile.specs.Forms.{shown, and_aim, on_slot, unary_slot, settled, register, prepay, ticked, generic_written, numeric_written}
 use Rattle.lua_compile.specs.Parts.{returned, step_written}
-use Rattle.lua_compile.specs.Written.{exp_written, operands_written, body_written, values_written, list_written, block_written, stats_written, stats_known, stat_written}
+use Rattle.lua_compile.specs.Written.{exp_written, ands_written, operands_written, body_written, values_written, list_written, block_written, stats_written, stats_known, stat_written}
 
 pub on_ok : {X Y P Q : Type 0} (r : Result X Y) → (P → Q) → OnOk r P → OnOk r Q
 on_ok (result.Ok x) f p = f p
@@ -93,6 +93,16 @@ operations_next os i o sc d aim p q w v h is e =
     ∙ sym e
     ∙ ap (λ (xs : List Operation). operands_written (operands_of (operand_of o ∷ map operand_of xs)) sc d aim p w) (rest_is os (i + 1))
     ∙ ap (λ (xs : List Operation). operands_written (operands_of (map operand_of xs)) sc d aim p w) (sym (dropped os i (i + 1) o (add-one i) h is))
+
+pub ands_next : (os : List Operation) (i : ℕ) (o : Operation) (sc : Scope) (d : ℕ) (aim a : Aim) (w v : Writer) → i < length os → o ≡ slice_index_or os i o
+    → a ≡ and_aim (operands_of (map operand_of (take (length os - (i + 1)) (drop (i + 1) os)))) aim → v ≡ exp_written (exp_of o.value) sc d a w
+    → ands_written (operands_of (map operand_of (drop (i + 1) os))) sc d aim v ≡ ands_written (operands_of (map operand_of (drop i os))) sc d aim w
+ands_next os i o sc d aim a w v h is ea ev =
+    let rest = operands_of (map operand_of (drop (i + 1) os)) in
+    let e : a ≡ and_aim rest aim = ea ∙ ap (λ (xs : List Operation). and_aim (operands_of (map operand_of xs)) aim) (rest_is os (i + 1)) in
+    ap (λ (u : Writer). ands_written rest sc d aim u) (ev ∙ ap (λ b. exp_written (exp_of o.value) sc d b w) e)
+    ∙ ap (λ (x : Applied). ands_written (operands_of (x ∷ map operand_of (drop (i + 1) os))) sc d aim w) (sym (operand_seen o.op o.line o.value))
+    ∙ ap (λ (xs : List Operation). ands_written (operands_of (map operand_of xs)) sc d aim w) (sym (dropped os i (i + 1) o (add-one i) h is))
 
 -- ---- one term
 pub pushed : (s p : Operand) (v w : Writer) → s ≡ p → v ≡ w → on_slot s v (λ x. put (op.Push x) v) ≡ on_slot p w (λ x. put (op.Push x) w)

@@ -1,11 +1,10 @@
 -- Names in scope, the innermost first, where the code keeps them the innermost last.
-use Rattle.std.proofs.Common.{◌≡◌, ℕ, zero, suc, ◌+◌, ◌-◌, ◌<◌, ◌≤◌, refl, sym, ap, ◌∙◌, subst, List, [], ◌∷◌, ◌++◌, length, take, drop, Option, Some, None, option_map, arith, Bool, true, false, append_assoc, length-append, length-drop}
+use Rattle.std.proofs.Common.{◌≡◌, ℕ, ◌+◌, ◌-◌, refl, sym, ap, ◌∙◌, List, [], ◌∷◌, ◌++◌, length, take, drop, Option, Some, arith, Bool, true, false, append_assoc, length-append, length-drop}
 use Rattle.std.specs.Prelude.{reverse, find, cond, if◌then◌else◌}
-use Rattle.std.proofs.lemmas.List.{take-append-drop, reverse-append, length-reverse, drop_at, append-nil}
+use Rattle.std.proofs.lemmas.List.{take-append-drop, reverse-append, length-reverse, drop_at}
 use Rattle.lua_tree.specs.Source as source
 use Rattle.lua_tree.specs.Source.{Text, Block, Plain, Returns, Stats, NoStat, MoreStats, Stat}
 use Rattle.lua_model.specs.Texts.{same_bytes}
-use Rattle.lua_steps.specs.declared.scope.Place.{Place}
 use Rattle.lua_steps.specs.declared.scope.Known.{Known}
 use Rattle.lua_steps.specs.Scope.{Scope, place_of, in_slot, in_cell, past}
 use Rattle.lua_compile.specs.Writer.{Writer, known, all_known, flag}

@@ -27,6 +27,7 @@ use Rattle.lua_compile.proofs.Kept.{Level, kept_self, kept_emit, kept_placed_bel
 use Rattle.lua_compile.proofs.KeptForms.{K, k_emit, k_put, k_if, k_on, k_declare_all}
 use Rattle.lua_compile.proofs.KeptTerms.{on, fixed_kept, list_kept, tail_kept, only_kept}
 use Rattle.lua_compile.proofs.Final.{Final, part, back, at_op, at_line, label_is, never_lost, Given}
+use Rattle.lua_compile.proofs.ServesForms.{paid_stands}
 use Rattle.lua_compile.proofs.ServesParts.{two, declares_serve}
 use Rattle.lua_compile.proofs.ServesRest.{shown_into}
 
@@ -66,7 +67,7 @@ pub true_serves : (code : Code) (f : ℕ) (L : List ℕ) (n d : ℕ) (sc : Scope
     → Given code f L aim (Slot (register aim d)) R (true_written d aim w).at → IsExp code f sc source.True w.at d (target_of aim) R
 true_serves code f L n d sc (Into r) w R lv fin g = inl (at_op code f L n (op.Bool r true) 0 w lv fin, g)
 true_serves code f L n d sc (Anywhere room) w R lv fin g = inl (at_op code f L n (op.Bool d true) 0 w lv fin, g)
-true_serves code f L n d sc (Unless l) w R lv fin g = inr g.holds
+true_serves code f L n d sc (Unless l pay) w R lv fin g = inr (g.always w.at (paid_stands code f L n pay w lv fin))
 
 -- a base of a chain
 pub given_base : (code : Code) (f : ℕ) (L : List ℕ) (lk : Link) (e : Exp) (names : List Known) (d : ℕ) (R : ℕ → Shown → Type 0) (c : ℕ) → R c (shown_of (shown e names d (link_aim lk d))) → Given code f L (link_aim lk d) (shown e names d (link_aim lk d)) R c

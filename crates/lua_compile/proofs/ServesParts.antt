@@ -28,7 +28,7 @@ use Rattle.lua_compile.specs.Forms.{register, target_of, stored, from, stores_wr
 use Rattle.lua_compile.proofs.Kept.{Level, kept_self, kept_emit}
 use Rattle.lua_compile.proofs.KeptForms.{k_put, k_stored, k_from, k_stores, k_nils, k_declare_all}
 use Rattle.lua_compile.proofs.Final.{Final, back, at_op, at_line, never_lost, Given}
-use Rattle.lua_compile.proofs.ServesForms.{put_in, stored_stands}
+use Rattle.lua_compile.proofs.ServesForms.{test_pays, put_in, stored_stands}
 
 pub two : (a : ℕ) (R : ℕ → Type 0) → R (a + 1 + 1) → R (a + 2)
 two a R r = (let e : a + 1 + 1 ≡ a + 2 = omega arith in subst R e r)
@@ -84,16 +84,16 @@ module _ (code : Code) (f : ℕ) (L : List ℕ) where
       → Given code f L aim (Slot (register aim d)) R (unary_slot u x d aim line w).at → IsUnary code f w.at u (target_of aim) d (Reg x) line R
   slot_unary n x d unary.Not (Into r) line w R lv fin g = inl (at_line code f L n (op.Unary unary.Not r x) line w lv fin, g)
   slot_unary n x d unary.Not (Anywhere room) line w R lv fin g = inl (at_line code f L n (op.Unary unary.Not d x) line w lv fin, g)
-  slot_unary n x d unary.Not (Unless l) line w R lv fin g = inr (g.test_not w.at x refl (at_op code f L n (op.TestNot x l) 0 w lv fin))
+  slot_unary n x d unary.Not (Unless l pay) line w R lv fin g = (let t = test_pays code f L n pay (op.TestNot x l) w lv fin in inr (g.test_not w.at x t.1 t.0))
   slot_unary n x d unary.Minus (Into r) line w R lv fin g = (at_line code f L n (op.Unary unary.Minus r x) line w lv fin, g)
   slot_unary n x d unary.Minus (Anywhere room) line w R lv fin g = (at_line code f L n (op.Unary unary.Minus d x) line w lv fin, g)
-  slot_unary n x d unary.Minus (Unless l) line w R lv fin g = put_in code f L n d (Unless l) (op.Unary unary.Minus d x) line w R lv fin g
+  slot_unary n x d unary.Minus (Unless l pay) line w R lv fin g = put_in code f L n d (Unless l pay) (op.Unary unary.Minus d x) line w R lv fin g
   slot_unary n x d unary.BitNot (Into r) line w R lv fin g = (at_line code f L n (op.Unary unary.BitNot r x) line w lv fin, g)
   slot_unary n x d unary.BitNot (Anywhere room) line w R lv fin g = (at_line code f L n (op.Unary unary.BitNot d x) line w lv fin, g)
-  slot_unary n x d unary.BitNot (Unless l) line w R lv fin g = put_in code f L n d (Unless l) (op.Unary unary.BitNot d x) line w R lv fin g
+  slot_unary n x d unary.BitNot (Unless l pay) line w R lv fin g = put_in code f L n d (Unless l pay) (op.Unary unary.BitNot d x) line w R lv fin g
   slot_unary n x d unary.Length (Into r) line w R lv fin g = (at_line code f L n (op.Unary unary.Length r x) line w lv fin, g)
   slot_unary n x d unary.Length (Anywhere room) line w R lv fin g = (at_line code f L n (op.Unary unary.Length d x) line w lv fin, g)
-  slot_unary n x d unary.Length (Unless l) line w R lv fin g = put_in code f L n d (Unless l) (op.Unary unary.Length d x) line w R lv fin g
+  slot_unary n x d unary.Length (Unless l pay) line w R lv fin g = put_in code f L n d (Unless l pay) (op.Unary unary.Length d x) line w R lv fin g
 
   pub unary_serves : (n d : ℕ) (u : Unary) (p : Operand) (aim : Aim) (line : ℕ) (w : Writer) (R : ℕ → Shown → Type 0) → Level w → Final code f L n (on_slot p w (λ x. unary_slot u x d aim line w))
       → Given code f L aim (Slot (register aim d)) R (on_slot p w (λ x. unary_slot u x d aim line w)).at → IsUnary code f w.at u (target_of aim) d (shown_of p) line R
@@ -131,38 +131,38 @@ module _ (code : Code) (f : ℕ) (L : List ℕ) where
   binary_stands n o r (Slot x) (Held m) line w lv fin = (int_there n o r x m line w lv fin, refl)
   binary_stands n o r (Held m) q line w lv fin = absurd (never_lost code f L n w fin)
 
-  test_there : (n : ℕ) (o : Binary) (p q : Operand) (l line : ℕ) (w : Writer) → Level w → Final code f L n (some_written (test_op o (shown_of p) (shown_of q) 0 l) line w)
-      → AtSome code f w.at (test_op o (shown_of p) (shown_of q) 0 (place L l)) line
-  test_there n binary.Less (Slot x) (Slot y) l line w lv fin = at_line code f L n _ line w lv fin
-  test_there n binary.Less (Slot x) (Held m) l line w lv fin = at_line code f L n _ line w lv fin
-  test_there n binary.Less (Held m) (Slot y) l line w lv fin = at_line code f L n _ line w lv fin
-  test_there n binary.Less (Held m) (Held i) l line w lv fin = never_lost code f L n w fin
-  test_there n binary.LessEqual (Slot x) (Slot y) l line w lv fin = at_line code f L n _ line w lv fin
-  test_there n binary.LessEqual (Slot x) (Held m) l line w lv fin = at_line code f L n _ line w lv fin
-  test_there n binary.LessEqual (Held m) (Slot y) l line w lv fin = at_line code f L n _ line w lv fin
-  test_there n binary.LessEqual (Held m) (Held i) l line w lv fin = never_lost code f L n w fin
-  test_there n binary.Greater (Slot x) (Slot y) l line w lv fin = at_line code f L n _ line w lv fin
-  test_there n binary.Greater (Slot x) (Held m) l line w lv fin = at_line code f L n _ line w lv fin
-  test_there n binary.Greater (Held m) (Slot y) l line w lv fin = at_line code f L n _ line w lv fin
-  test_there n binary.Greater (Held m) (Held i) l line w lv fin = never_lost code f L n w fin
-  test_there n binary.GreaterEqual (Slot x) (Slot y) l line w lv fin = at_line code f L n _ line w lv fin
-  test_there n binary.GreaterEqual (Slot x) (Held m) l line w lv fin = at_line code f L n _ line w lv fin
-  test_there n binary.GreaterEqual (Held m) (Slot y) l line w lv fin = at_line code f L n _ line w lv fin
-  test_there n binary.GreaterEqual (Held m) (Held i) l line w lv fin = never_lost code f L n w fin
-  test_there n binary.Equal (Slot x) (Slot y) l line w lv fin = at_line code f L n _ line w lv fin
-  test_there n binary.Equal (Slot x) (Held m) l line w lv fin = at_line code f L n _ line w lv fin
-  test_there n binary.Equal (Held m) (Slot y) l line w lv fin = at_line code f L n _ line w lv fin
-  test_there n binary.Equal (Held m) (Held i) l line w lv fin = never_lost code f L n w fin
-  test_there n binary.NotEqual (Slot x) (Slot y) l line w lv fin = at_line code f L n _ line w lv fin
-  test_there n binary.NotEqual (Slot x) (Held m) l line w lv fin = at_line code f L n _ line w lv fin
-  test_there n binary.NotEqual (Held m) (Slot y) l line w lv fin = at_line code f L n _ line w lv fin
-  test_there n binary.NotEqual (Held m) (Held i) l line w lv fin = never_lost code f L n w fin
-  test_there n o p q l line w lv fin = never_lost code f L n w fin
+  test_there : (n : ℕ) (o : Binary) (p q : Operand) (pay l line : ℕ) (w : Writer) → Level w → Final code f L n (some_written (test_op o (shown_of p) (shown_of q) pay l) line w)
+      → AtSome code f w.at (test_op o (shown_of p) (shown_of q) pay (place L l)) line
+  test_there n binary.Less (Slot x) (Slot y) pay l line w lv fin = at_line code f L n _ line w lv fin
+  test_there n binary.Less (Slot x) (Held m) pay l line w lv fin = at_line code f L n _ line w lv fin
+  test_there n binary.Less (Held m) (Slot y) pay l line w lv fin = at_line code f L n _ line w lv fin
+  test_there n binary.Less (Held m) (Held i) pay l line w lv fin = never_lost code f L n w fin
+  test_there n binary.LessEqual (Slot x) (Slot y) pay l line w lv fin = at_line code f L n _ line w lv fin
+  test_there n binary.LessEqual (Slot x) (Held m) pay l line w lv fin = at_line code f L n _ line w lv fin
+  test_there n binary.LessEqual (Held m) (Slot y) pay l line w lv fin = at_line code f L n _ line w lv fin
+  test_there n binary.LessEqual (Held m) (Held i) pay l line w lv fin = never_lost code f L n w fin
+  test_there n binary.Greater (Slot x) (Slot y) pay l line w lv fin = at_line code f L n _ line w lv fin
+  test_there n binary.Greater (Slot x) (Held m) pay l line w lv fin = at_line code f L n _ line w lv fin
+  test_there n binary.Greater (Held m) (Slot y) pay l line w lv fin = at_line code f L n _ line w lv fin
+  test_there n binary.Greater (Held m) (Held i) pay l line w lv fin = never_lost code f L n w fin
+  test_there n binary.GreaterEqual (Slot x) (Slot y) pay l line w lv fin = at_line code f L n _ line w lv fin
+  test_there n binary.GreaterEqual (Slot x) (Held m) pay l line w lv fin = at_line code f L n _ line w lv fin
+  test_there n binary.GreaterEqual (Held m) (Slot y) pay l line w lv fin = at_line code f L n _ line w lv fin
+  test_there n binary.GreaterEqual (Held m) (Held i) pay l line w lv fin = never_lost code f L n w fin
+  test_there n binary.Equal (Slot x) (Slot y) pay l line w lv fin = at_line code f L n _ line w lv fin
+  test_there n binary.Equal (Slot x) (Held m) pay l line w lv fin = at_line code f L n _ line w lv fin
+  test_there n binary.Equal (Held m) (Slot y) pay l line w lv fin = at_line code f L n _ line w lv fin
+  test_there n binary.Equal (Held m) (Held i) pay l line w lv fin = never_lost code f L n w fin
+  test_there n binary.NotEqual (Slot x) (Slot y) pay l line w lv fin = at_line code f L n _ line w lv fin
+  test_there n binary.NotEqual (Slot x) (Held m) pay l line w lv fin = at_line code f L n _ line w lv fin
+  test_there n binary.NotEqual (Held m) (Slot y) pay l line w lv fin = at_line code f L n _ line w lv fin
+  test_there n binary.NotEqual (Held m) (Held i) pay l line w lv fin = never_lost code f L n w fin
+  test_there n o p q pay l line w lv fin = never_lost code f L n w fin
 
-  pub test_stands : (n : ℕ) (o : Binary) (p q : Operand) (l line : ℕ) (w : Writer) → Level w → Final code f L n (test_written o p q (Unless l) line w)
-      → AtSome code f w.at (test_op o (shown_of p) (shown_of q) 0 (place L l)) line × ((test_written o p q (Unless l) line w).at ≡ w.at + 1)
-  test_stands n o p q l line w lv fin =
-      (test_there n o p q l line w lv fin, (some_stands n (test_op o (shown_of p) (shown_of q) 0 l) line w lv fin).3)
+  pub test_stands : (n : ℕ) (o : Binary) (p q : Operand) (pay l line : ℕ) (w : Writer) → Level w → Final code f L n (test_written o p q (Unless l pay) line w)
+      → AtSome code f w.at (test_op o (shown_of p) (shown_of q) pay (place L l)) line × ((test_written o p q (Unless l pay) line w).at ≡ w.at + 1)
+  test_stands n o p q pay l line w lv fin =
+      (test_there n o p q pay l line w lv fin, (some_stands n (test_op o (shown_of p) (shown_of q) pay l) line w lv fin).3)
 
   -- ---- locals
   declares_at : (n : ℕ) (b : Bool) (x : Text) (xs : List Text) (sc : Scope) (w : Writer) (R : Scope → ℕ → Type 0) → Level w

@@ -26,8 +26,8 @@ use Rattle.lua_compile.specs.Written.{operands_written}
 use Rattle.lua_compile.proofs.Kept.{Level, kept_self, kept_emit}
 use Rattle.lua_compile.proofs.KeptForms.{K, k_put, k_emit, k_last, k_binary, k_called_list}
 use Rattle.lua_compile.proofs.KeptTerms.{operands_kept}
-use Rattle.lua_compile.proofs.Final.{Final, back, at_op, at_line, not_lost, never_lost, no_difference, same_nat, not_false, and_left, and_right, Jumps, Given}
-use Rattle.lua_compile.proofs.ServesForms.{unsettled}
+use Rattle.lua_compile.proofs.Final.{Final, back, at_op, at_line, not_lost, never_lost, no_difference, same_nat, not_false, and_left, and_right, Pays, Jumps, Given}
+use Rattle.lua_compile.proofs.ServesForms.{test_pays, unsettled}
 use Rattle.lua_compile.proofs.ServesParts.{two, want_of, Follows, binary_stands, test_stands}
 
 -- ---- what is known of expressions
@@ -110,7 +110,7 @@ kept_slot (Held n) d h = (let x : true ≡ false = h in absurd (cc))
 pub same_so_far : (os : Operands) (aim : Aim) (d : ℕ) → so_far os aim d ≡ stand.so_far os (target_of aim) d
 same_so_far NoOperand (Into r) d = refl
 same_so_far NoOperand (Anywhere room) d = refl
-same_so_far NoOperand (Unless l) d = refl
+same_so_far NoOperand (Unless l pay) d = refl
 same_so_far (MoreOperands o line e os) aim d = refl
 
 abbrev pub IsMore : Operands → Type 0
@@ -118,21 +118,26 @@ IsMore NoOperand = ⊥
 IsMore (MoreOperands o line e os) = Unit {0}
 
 module _ (code : Code) (f : ℕ) (L : List ℕ) where
-  pub branch_jumps : (l c : ℕ) (T : ℕ → ℕ → Type 0) (F : ℕ → Type 0) → T 0 c → F (place L l) → Jumps code f L l (λ b p. Branch code f b p T F) c
-  branch_jumps l c T F t g =
+  pub branch_jumps : (l pay c : ℕ) (T : ℕ → ℕ → Type 0) (F : ℕ → Type 0) → T pay c → ((b : ℕ) → Pays code f pay b c → T 0 b) → F (place L l) → Jumps code f L l pay (λ b p. Branch code f b p T F) c
+  branch_jumps l pay c T F t h g =
       record {
         holds = t;
-        int = λ n. t;
+        always = h;
+        int = λ n. h;
         fails = g;
-        test = λ b r e a. inl (place L l, a, subst (T 0) (sym e) t, g);
-        test_not = λ b r e a. inr (place L l, a, subst (T 0) (sym e) t, g);
+        test = λ b r e a. inl (place L l, a, h (b + 1) e, g);
+        test_not = λ b r e a. inr (place L l, a, h (b + 1) e, g);
       }
 
-  pub map_jumps : (l c : ℕ) (R S : ℕ → Shown → Type 0) → ((b : ℕ) (p : Shown) → R b p → S b p) → Jumps code f L l R c → Jumps code f L l S c
-  map_jumps l c R S h g =
+  pub unpaid_jumps : (l c : ℕ) (T : ℕ → ℕ → Type 0) (F : ℕ → Type 0) → T 0 c → F (place L l) → Jumps code f L l 0 (λ b p. Branch code f b p T F) c
+  unpaid_jumps l c T F t g = branch_jumps l 0 c T F t (λ b e. subst (T 0) (sym e) t) g
+
+  pub map_jumps : (l pay c : ℕ) (R S : ℕ → Shown → Type 0) → ((b : ℕ) (p : Shown) → R b p → S b p) → Jumps code f L l pay R c → Jumps code f L l pay S c
+  map_jumps l pay c R S h g =
       record {
-        holds = h c (Holds 0) g.holds;
-        int = λ n. h c (Imm n) (g.int n);
+        holds = h c (Holds pay) g.holds;
+        always = λ b e. h b (Holds 0) (g.always b e);
+        int = λ n b e. h b (Imm n) (g.int n b e);
         fails = h (place L l) Fails g.fails;
         test = λ b r e a. h b (Reg r) (g.test b r e a);
         test_not = λ b r e a. h b (Not r) (g.test_not b r e a);
@@ -142,8 +147,8 @@ module _ (code : Code) (f : ℕ) (L : List ℕ) where
       → Given code f L aim (Slot (register aim d)) R (settled aim r (lost_if (differ (register aim d) r) v)).at → IsThere (target_of aim) (Reg r) × R v.at (Reg r)
   end_of n d r (Into s) v R lv e fin g = (ap Reg (sym e), subst (λ i. R v.at (Reg i)) e g)
   end_of n d r (Anywhere room) v R lv e fin g = (tt, subst (λ i. R v.at (Reg i)) e g)
-  end_of n d r (Unless l) v R lv e fin g =
-      (tt, g.test v.at r refl (at_op code f L n (op.Test r l) 0 (lost_if (differ d r) v) (record { ops = lv.ops; lines = lv.lines }) fin))
+  end_of n d r (Unless l pay) v R lv e fin g =
+      let t = test_pays code f L n pay (op.Test r l) (lost_if (differ d r) v) (record { ops = lv.ops; lines = lv.lines }) fin in (tt, g.test v.at r t.1 t.0)
 
   -- what follows an operator of a chain
   pub rest_of : (os : Operands) (sc : Scope) (d : ℕ) (aim : Aim) (r : ℕ) (v : Writer) (n : ℕ) (R : ℕ → Shown → Type 0) → Level v
@@ -180,9 +185,9 @@ module _ (code : Code) (f : ℕ) (L : List ℕ) where
   tested (MoreOperands o l e os) aim u p q sc d line v n R h k lv fin g = (let x : false ≡ true = h in absurd (cc))
   tested NoOperand (Into r) u p q sc d line v n R h k lv fin g = (let x : false ≡ true = k in absurd (cc))
   tested NoOperand (Anywhere room) u p q sc d line v n R h k lv fin g = (let x : false ≡ true = k in absurd (cc))
-  tested NoOperand (Unless l) u p q sc d line v n R h k lv fin g =
-      let s = test_stands code f L n u p q l line v lv fin in
-      inr (0, place L l, s.0, inl (tt, subst (λ c. R c (Holds 0)) s.1 g.holds), inl (tt, g.fails))
+  tested NoOperand (Unless l pay) u p q sc d line v n R h k lv fin g =
+      let s = test_stands code f L n u p q pay l line v lv fin in
+      inr (pay, place L l, s.0, inl (tt, subst (λ c. R c (Holds pay)) s.1 g.holds), inl (tt, g.fails))
 
   computed : (os : Operands) (aim : Aim) (u : Binary) (p q : Operand) (sc : Scope) (d line : ℕ) (v : Writer) (n : ℕ) (R : ℕ → Shown → Type 0) → Level v
       → Final code f L n (operands_written os sc d aim (Slot (so_far os aim d)) (last_settled os aim d (so_far os aim d) (binary_written u (so_far os aim d) p q line v)))

@@ -23,7 +23,7 @@ use Rattle.lua_compile.specs.declared.aim.Operand.TheVariants.{Slot}
 use Rattle.lua_compile.specs.declared.aim.Want.{Want}
 use Rattle.lua_compile.specs.declared.aim.Want.TheVariants as want
 use Rattle.lua_compile.specs.Writer.{Writer, put, labelled, label_of, placed_here, with_constant, lost_if, counted, done, flag, all_known, declare_all, seen_inside, begun, resumed, place, placed}
-use Rattle.lua_compile.specs.Forms.{register, target_of, differ, int_written, has_room, stores_written, nils_written, shown, shown_of, on_slot, is_slot, binary_written, tests, room_for, test_written, unary_slot, so_far, last_settled, link_aim, is_both, all_and, is_many, count, last_is_one, slots_fit, targets_fit, is_only, is_tail, only_shown, called, called_list, where_none, prepay, ticked, ticked_more, paid_before, ticked_twice, only_direct, only_slot, directly, jumped, where_else, function_known, close_op, numeric_written, generic_written}
+use Rattle.lua_compile.specs.Forms.{register, target_of, differ, int_written, has_room, stores_written, nils_written, shown, shown_of, on_slot, is_slot, binary_written, tests, room_for, test_written, unary_slot, so_far, last_settled, link_aim, and_pay, is_both, all_and, is_many, count, last_is_one, slots_fit, targets_fit, is_only, is_tail, only_shown, called, called_list, where_none, prepay, ticked, ticked_more, paid_before, ticked_twice, only_direct, only_slot, directly, jumped, where_else, function_known, close_op, numeric_written, generic_written}
 use Rattle.lua_compile.specs.Written.{exp_written, ands_written, operands_written, suffixes_written, fixed_written, values_written, many_written, list_written, all_written, tail_written, only_written, body_written, block_written, block_known, stats_written, stats_known, stat_written, stat_known, else_written}
 use Rattle.lua_compile.proofs.Kept.{Level, kept_self, kept_emit, kept_placed_below, get_front, get_end, length_set}
 use Rattle.lua_compile.proofs.KeptForms.{K, k_put, k_labelled, k_lost, k_counted, k_resumed, k_if, k_int, k_nils, k_jumped, k_on, k_unary, k_binary, k_test, k_last, k_none, k_ticked, k_ticked_more, k_ticked_twice, k_stores, k_where_else, k_called, k_called_list, k_declare_all}
@@ -31,7 +31,8 @@ use Rattle.lua_compile.proofs.KeptTerms.{on, labelled_three, k_numeric, k_generi
 use Rattle.lua_compile.proofs.Final.{Final, part, back, at_op, at_constant, label_is, not_lost, never_lost, no_difference, and_left, and_right, Jumps, Given}
 use Rattle.lua_compile.proofs.ServesForms.{unsettled, settled_free, int_stands, int_serves, put_in, name_serves}
 use Rattle.lua_compile.proofs.ServesParts.{two, want_of, Follows, writes_serve, is_operand, nils_serve, unary_serves, declares_serve, tick_serves, ticks_serve, twice_serves, wanted_serves, inside_all}
-use Rattle.lua_compile.proofs.ServesRest.{one_of, not_true, direct_only, no_tail, by_bool, by_link, both_as, kept_slot, IsMore, branch_jumps, map_jumps, rest_of, operated, call_serves, pushed, returned, leads_on}
+use Rattle.lua_compile.proofs.ServesTicks.{block_ticked}
+use Rattle.lua_compile.proofs.ServesRest.{one_of, not_true, direct_only, no_tail, by_bool, by_link, both_as, kept_slot, IsMore, branch_jumps, unpaid_jumps, map_jumps, rest_of, operated, call_serves, pushed, returned, leads_on}
 use Rattle.lua_compile.proofs.ServesLoops.{three_more, two_more, one_more, get_map, Out, own, true_serves, given_base, returned_kept, below, same_place, set_long, no_else_ends, numeric_serves, generic_serves, targets_serve, only_known, by_slot, jump_serves, closed_as}
 
 module _ (code : Code) where
@@ -117,41 +118,41 @@ module _ (code : Code) where
         let rest = operands_serves (MoreOperands o line x os) f L sc d (Anywhere room) p u n R (omega (arith, le, ku.more)) (ku.level lv) tt fin g in
         base_as f lk e ch sc w.at d (Anywhere room) R
         (exp_serves e f L sc d a w n (λ b q. IsOperands code f sc ch b d q stand.Anywhere R) le lv fin_u (given_base code f L lk e sc.names d (λ b q. IsOperands code f sc ch b d q stand.Anywhere R) u.at rest))
-    exp_serves (source.Chain e (MoreOperands o line x os)) f L sc d (Unless l) w n R le lv fin g =
+    exp_serves (source.Chain e (MoreOperands o line x os)) f L sc d (Unless l pay) w n R le lv fin g =
         let ch = MoreOperands o line x os in
-        let v = exp_written e sc d (Unless l) w in
-        let kv = exp_kept e sc d (Unless l) w in
+        let v = exp_written e sc d (Unless l 0) w in
+        let kv = exp_kept e sc d (Unless l 0) w in
         let lk = link_of o in
         let a = link_aim lk d in
         let u = exp_written e sc d a w in
         let ku = exp_kept e sc d a w in
         let p = shown e sc.names d a in
         let S = λ (b : ℕ) (q : Shown). IsOperands code f sc ch b d q stand.Decided R in
-        by_bool (IsExp code f sc (source.Chain e ch) w.at d stand.Decided R) (λ t. Final code f L n t × Jumps code f L l R t.at) (is_both lk && all_and os)
-        (ands_written ch sc d (Unless l) v) (operands_written ch sc d (Unless l) p u) (fin, g)
+        by_bool (IsExp code f sc (source.Chain e ch) w.at d stand.Decided R) (λ t. Final code f L n t × Jumps code f L l pay R t.at) (is_both lk && all_and os)
+        (ands_written ch sc d (Unless l pay) v) (operands_written ch sc d (Unless l pay) p u) (fin, g)
         (λ all h.
-        let fin_v = back code f L n v (ands_written ch sc d (Unless l) v) h.0 (ands_kept ch sc d (Unless l) v) in
-        inr (inr (exp_serves e f L sc d (Unless l) w n S le lv fin_v (ands_serves (MoreOperands o line x os) f L sc d l v n R (omega (arith, le, kv.more)) (kv.level lv) all h.0 h.1))))
+        let fin_v = back code f L n v (ands_written ch sc d (Unless l pay) v) h.0 (ands_kept ch sc d (Unless l pay) v) in
+        inr (inr (exp_serves e f L sc d (Unless l 0) w n S le lv fin_v (ands_serves (MoreOperands o line x os) f L sc d l pay v n R (omega (arith, le, kv.more)) (kv.level lv) all h.0 h.1))))
         (λ some h.
-        let fin_u = back code f L n u (operands_written ch sc d (Unless l) p u) h.0 (operands_kept ch sc d (Unless l) p u) in
-        let rest = operands_serves (MoreOperands o line x os) f L sc d (Unless l) p u n R (omega (arith, le, ku.more)) (ku.level lv) tt h.0 h.1 in
-        base_as f lk e ch sc w.at d (Unless l) R (exp_serves e f L sc d a w n S le lv fin_u (given_base code f L lk e sc.names d S u.at rest)))
+        let fin_u = back code f L n u (operands_written ch sc d (Unless l pay) p u) h.0 (operands_kept ch sc d (Unless l pay) p u) in
+        let rest = operands_serves (MoreOperands o line x os) f L sc d (Unless l pay) p u n R (omega (arith, le, ku.more)) (ku.level lv) tt h.0 h.1 in
+        base_as f lk e ch sc w.at d (Unless l pay) R (exp_serves e f L sc d a w n S le lv fin_u (given_base code f L lk e sc.names d S u.at rest)))
 
-    pub ands_serves : (os : Operands) (f : ℕ) (L : List ℕ) (sc : Scope) (d l : ℕ) (w : Writer) (n : ℕ) (R : ℕ → Shown → Type 0) → n ≤ length w.labels → Level w → all_and os ≡ true
-        → Final code f L n (ands_written os sc d (Unless l) w) → Jumps code f L l R (ands_written os sc d (Unless l) w).at → Jumps code f L l (λ b p. IsOperands code f sc os b d p stand.Decided R) w.at
-    ands_serves NoOperand f L sc d l w n R le lv all fin g = map_jumps code f L l w.at R (λ b p. IsOperands code f sc NoOperand b d p stand.Decided R) (λ b p r. (tt, r)) g
-    ands_serves (MoreOperands o line e os) f L sc d l w n R le lv all fin g =
-        let v = exp_written e sc d (Unless l) w in
-        let kv = exp_kept e sc d (Unless l) w in
+    pub ands_serves : (os : Operands) (f : ℕ) (L : List ℕ) (sc : Scope) (d l pay : ℕ) (w : Writer) (n : ℕ) (R : ℕ → Shown → Type 0) → n ≤ length w.labels → Level w → all_and os ≡ true
+        → Final code f L n (ands_written os sc d (Unless l pay) w) → Jumps code f L l pay R (ands_written os sc d (Unless l pay) w).at → Jumps code f L l (and_pay os pay) (λ b p. IsOperands code f sc os b d p stand.Decided R) w.at
+    ands_serves NoOperand f L sc d l pay w n R le lv all fin g = map_jumps code f L l pay w.at R (λ b p. IsOperands code f sc NoOperand b d p stand.Decided R) (λ b p r. (tt, r)) g
+    ands_serves (MoreOperands o line e os) f L sc d l pay w n R le lv all fin g =
+        let v = exp_written e sc d (Unless l (and_pay os pay)) w in
+        let kv = exp_kept e sc d (Unless l (and_pay os pay)) w in
         let S = λ (b : ℕ) (q : Shown). IsOperands code f sc os b d q stand.Decided R in
         let T = λ (k b : ℕ). (k ≡ 0) × IsExp code f sc e b d stand.Decided S in
         let F = λ (b : ℕ). IsOperands code f sc os b d Fails stand.Decided R in
-        let rest = ands_serves os f L sc d l v n R (omega (arith, le, kv.more)) (kv.level lv) (and_right (is_both (link_of o)) (all_and os) all) fin g in
-        let fin_v = back code f L n v (ands_written os sc d (Unless l) v) fin (ands_kept os sc d (Unless l) v) in
-        let first = exp_serves e f L sc d (Unless l) w n S le lv fin_v rest in
-        map_jumps code f L l w.at (λ b p. Branch code f b p T F) (λ b p. IsOperands code f sc (MoreOperands o line e os) b d p stand.Decided R)
+        let rest = ands_serves os f L sc d l pay v n R (omega (arith, le, kv.more)) (kv.level lv) (and_right (is_both (link_of o)) (all_and os) all) fin g in
+        let fin_v = back code f L n v (ands_written os sc d (Unless l pay) v) fin (ands_kept os sc d (Unless l pay) v) in
+        let first = exp_serves e f L sc d (Unless l (and_pay os pay)) w n S le lv fin_v rest in
+        map_jumps code f L l 0 w.at (λ b p. Branch code f b p T F) (λ b p. IsOperands code f sc (MoreOperands o line e os) b d p stand.Decided R)
         (λ b p r. both_as (link_of o) _ _ _ (and_left (is_both (link_of o)) (all_and os) all) (inr r))
-        (branch_jumps code f L l w.at T F (refl, first) rest.fails)
+        (unpaid_jumps code f L l w.at T F (refl, first) rest.fails)
 
     pub operands_serves : (os : Operands) (f : ℕ) (L : List ℕ) (sc : Scope) (d : ℕ) (aim : Aim) (p : Operand) (w : Writer) (n : ℕ) (R : ℕ → Shown → Type 0) → n ≤ length w.labels → Level w → IsMore os
         → Final code f L n (operands_written os sc d aim p w) → Given code f L aim (Slot (register aim d)) R (operands_written os sc d aim p w).at → IsOperands code f sc os w.at d (shown_of p) (target_of aim) R
@@ -546,8 +547,8 @@ module _ (code : Code) where
         let kb = block_kept p sc m (Some l) u in
         let t = placed_here (l + 1) b in
         let lt = same_place (l + 1) b (kb.level lu) in
-        let c = exp_written e sc sc.free (Unless l) t in
-        let kc = exp_kept e sc sc.free (Unless l) t in
+        let c = exp_written e sc sc.free (Unless l 0) t in
+        let kc = exp_kept e sc sc.free (Unless l 0) t in
         let o = op.Loop (suc m) (l + 2) in
         let z = put o c in
         let long : l + 3 ≤ length u.labels = omega (arith, three_more v, set_long (l + 2) j) in
@@ -566,7 +567,7 @@ module _ (code : Code) where
         let T = λ (i a : ℕ). Ticks code f i a (λ h g. IsBlock code f sc p h g Y E) in
         let inside = block_serves p f L sc m (Some l) u (l + 2) Y E (omega (arith, long)) lu fin_b (inl out) (inl (sym cond_at)) in
         let again : T 0 c.at = inr (m, place L (l + 2), at_op code f L (l + 1) o 0 c (kc.level lt) fin_z, subst (λ a. IsBlock code f sc p m a Y E) (sym body_at) inside) in
-        let test = exp_serves e f L sc sc.free (Unless l) t (l + 1) (λ h i. Branch code f h i T Y) (omega (arith, long, kb.more, set_long (l + 1) b)) lt fin_c (branch_jumps code f L l c.at T Y again (inl out)) in
+        let test = exp_serves e f L sc sc.free (Unless l 0) t (l + 1) (λ h i. Branch code f h i T Y) (omega (arith, long, kb.more, set_long (l + 1) b)) lt fin_c (unpaid_jumps code f L l c.at T Y again (inl out)) in
         let fin_v = back code f L (l + 3) v j fin_j (k_put v s jo (labelled_three v v (kept_self 0 v))) in
         let fin_v' : Final code f L (l + 3) v = fin_v in
         tick_serves code f L (l + 3) k w _ lv fin_v'
@@ -586,8 +587,8 @@ module _ (code : Code) where
         let kb = block_kept p sc m (Some l) u in
         let lb = kb.level lu in
         let inner = block_known p sc m (Some l) u in
-        let t = exp_written e inner inner.free (Unless (l + 1)) b in
-        let kt = exp_kept e inner inner.free (Unless (l + 1)) b in
+        let t = exp_written e inner inner.free (Unless (l + 1) 0) b in
+        let kt = exp_kept e inner inner.free (Unless (l + 1) 0) b in
         let lt = kt.level lb in
         let jo = op.Jump l in
         let j = put jo t in
@@ -615,8 +616,8 @@ module _ (code : Code) where
         let R = λ (i h : ℕ). IsBlock code f sc p i h Y (E i h) in
         let leave : Y t.at = inr (place L l, at_op code f L (l + 2) jo 0 t lt fin_j, out) in
         let turn : F m v.at g.at = inr (m, place L (l + 2), at_op code f L (l + 1) o 0 g lg fin_z, (refl, body_at)) in
-        let test = exp_serves e f L inner inner.free (Unless (l + 1)) b (l + 2) (λ b' r. Branch code f b' r T (F m v.at)) (omega (arith, long, kb.more)) lb fin_t
-        (branch_jumps code f L (l + 1) t.at T (F m v.at) (refl, leave) (subst (F m v.at) (sym again_at) turn)) in
+        let test = exp_serves e f L inner inner.free (Unless (l + 1) 0) b (l + 2) (λ b' r. Branch code f b' r T (F m v.at)) (omega (arith, long, kb.more)) lb fin_t
+        (unpaid_jumps code f L (l + 1) t.at T (F m v.at) (refl, leave) (subst (F m v.at) (sym again_at) turn)) in
         twice_serves code f L (l + 3) k m w R lv fin_v (block_serves p f L sc m (Some l) u (l + 2) Y (E m v.at) (omega (arith, long)) lu fin_b (inl out) test)
     stat_serves (source.If e p others) f L sc k exit w n X Q le lv fin x q =
         let v = ticked k w in
@@ -626,11 +627,11 @@ module _ (code : Code) where
         let le' : n ≤ l = omega (arith, le, kv.more) in
         let s = labelled (labelled v) in
         let ls : Level s = record { ops = lvv.ops; lines = lvv.lines } in
-        let c = exp_written e sc sc.free (Unless (l + 1)) s in
-        let kc = exp_kept e sc sc.free (Unless (l + 1)) s in
+        let c = exp_written e sc sc.free (Unless (l + 1) (prepay p)) s in
+        let kc = exp_kept e sc sc.free (Unless (l + 1) (prepay p)) s in
         let lc = kc.level ls in
-        let u = block_written p sc 0 exit c in
-        let ku = block_kept p sc 0 exit c in
+        let u = block_written p sc (prepay p) exit c in
+        let ku = block_kept p sc (prepay p) exit c in
         let lu = ku.level lc in
         let h = where_else others l u in
         let kh = k_where_else u u others l (kept_self 0 u) in
@@ -652,10 +653,10 @@ module _ (code : Code) where
         let T = λ (i a : ℕ). IsBlock code f sc p i a X Y in
         let F = λ (a : ℕ). IsElse code f sc others a X Q in
         let end = leads_on code f L others (l + 2) l u sc (λ g. Q sc g) lu fin_h (λ is. out_at ∙ no_else_ends others sc exit l (l + 1) u is) out in
-        let inside : T 0 c.at = block_serves p f L sc 0 exit c (l + 2) X Y (omega (arith, long, kc.more)) lc fin_u x end in
+        let inside : T (prepay p) c.at = block_serves p f L sc (prepay p) exit c (l + 2) X Y (omega (arith, long, kc.more)) lc fin_u x end in
         let rest : F t.at = else_serves others f L sc exit l t (l + 1) X Q (omega (arith, long, kc.more, ku.more, kh.more, set_long (l + 1) h)) lt fin_y x out_at out in
         tick_serves code f L (l + 2) k w _ lv fin_v
-        (exp_serves e f L sc sc.free (Unless (l + 1)) s (l + 2) (λ b r. Branch code f b r T F) long ls fin_c (branch_jumps code f L (l + 1) c.at T F inside (subst F (sym else_at) rest)))
+        (exp_serves e f L sc sc.free (Unless (l + 1) (prepay p)) s (l + 2) (λ b r. Branch code f b r T F) long ls fin_c (branch_jumps code f L (l + 1) (prepay p) c.at T F inside (λ b e. block_ticked code f sc p b c.at X Y e inside) (subst F (sym else_at) rest)))
     stat_serves (source.Numeric i first limit p line) f L sc k exit w n X Q le lv fin x q =
         let t = ticked k w in
         let kt = k_ticked w w k (kept_self 0 w) in
@@ -753,11 +754,11 @@ module _ (code : Code) where
         let l = label_of w in
         let s = labelled w in
         let ls : Level s = record { ops = lv.ops; lines = lv.lines } in
-        let a = exp_written c sc sc.free (Unless l) s in
-        let ka = exp_kept c sc sc.free (Unless l) s in
+        let a = exp_written c sc sc.free (Unless l (prepay p)) s in
+        let ka = exp_kept c sc sc.free (Unless l (prepay p)) s in
         let la = ka.level ls in
-        let u = block_written p sc 0 exit a in
-        let ku = block_kept p sc 0 exit a in
+        let u = block_written p sc (prepay p) exit a in
+        let ku = block_kept p sc (prepay p) exit a in
         let lu = ku.level la in
         let h = where_else others end u in
         let kh = k_where_else u u others end (kept_self 0 u) in
@@ -775,6 +776,6 @@ module _ (code : Code) where
         let T = λ (i z : ℕ). IsBlock code f sc p i z X Y in
         let F = λ (z : ℕ). IsElse code f sc others z X Q in
         let stop = leads_on code f L others (l + 1) end u sc (λ g. Q sc g) lu fin_h (λ is. e ∙ no_else_ends others sc exit end l u is) q in
-        let inside : T 0 a.at = block_serves p f L sc 0 exit a (l + 1) X Y (omega (arith, long, ka.more)) la fin_u x stop in
+        let inside : T (prepay p) a.at = block_serves p f L sc (prepay p) exit a (l + 1) X Y (omega (arith, long, ka.more)) la fin_u x stop in
         let rest : F t.at = else_serves others f L sc exit end t n X Q (omega (arith, le, long, ka.more, ku.more, kh.more, set_long l h)) lt fin x e q in
-        exp_serves c f L sc sc.free (Unless l) s (l + 1) (λ b r. Branch code f b r T F) long ls fin_a (branch_jumps code f L l a.at T F inside (subst F (sym else_at) rest))
+        exp_serves c f L sc sc.free (Unless l (prepay p)) s (l + 1) (λ b r. Branch code f b r T F) long ls fin_a (branch_jumps code f L l (prepay p) a.at T F inside (λ b i. block_ticked code f sc p b a.at X Y i inside) (subst F (sym else_at) rest))

@@ -1,6 +1,6 @@
 -- A statement that was written step by step is what its definition says.
 use Rattle.std.proofs.Common.{◌≡◌, ◌≢◌, ℕ, suc, ◌+◌, refl, sym, ap, ◌∙◌, add-one, Bool, List, [], ◌∷◌, length, map, option_map}
-use Rattle.std.specs.Prelude.{Option, Some, None, if◌then◌else◌, pos}
+use Rattle.std.specs.Prelude.{Option, Some, None, if◌then◌else◌}
 use Rattle.lua_tree.specs.Source as source
 use Rattle.lua_tree.specs.View.{exp_of, block_of, branch_of, branches_of, else_of, stat_of, numeric_of}
 use Rattle.lua_tree.proofs.Views.{repeat_seen, if_seen, numeric_seen}
@@ -23,7 +23,7 @@ use Rattle.lua_compile.proofs.LoopLemmas.{numeric_is}
 pub repeat_is : (b : Block) (e : Expr) (sc inner : Scope) (k m free after again start : ℕ) (w t u v x y z q r : Writer)
     → m ≡ prepay (block_of b) → t ≡ ticked_twice k m w → after ≡ label_of t → again ≡ label_of t + 1 → start ≡ label_of t + 2
     → u ≡ labelled (labelled (labelled t)) → v ≡ placed_here start u → x ≡ block_written (block_of b) sc m (Some after) v
-    → inner ≡ block_known (block_of b) sc m (Some after) v → free ≡ inner.free → y ≡ exp_written (exp_of e) inner free (Unless again) x
+    → inner ≡ block_known (block_of b) sc m (Some after) v → free ≡ inner.free → y ≡ exp_written (exp_of e) inner free (Unless again 0) x
     → z ≡ put (op.Jump after) y → q ≡ placed_here again z → r ≡ put (op.Loop (m + 1) start) q
     → placed_here after r ≡ repeat_written (stat_of (stat.Repeat b e)) sc k w
 repeat_is b e sc inner k m free after again start w t u v x y z q r em et ea eg es eu ev ex ei ef ey ez eq er =
@@ -35,7 +35,7 @@ repeat_is b e sc inner k m free after again start w t u v x y z q r em et ea eg 
     let v0 = placed_here (l + 2) u0 in
     let x0 = block_written p sc n (Some l) v0 in
     let i0 = block_known p sc n (Some l) v0 in
-    let y0 = exp_written (exp_of e) i0 i0.free (Unless (l + 1)) x0 in
+    let y0 = exp_written (exp_of e) i0 i0.free (Unless (l + 1) 0) x0 in
     let z0 = put (op.Jump l) y0 in
     let q0 = placed_here (l + 1) z0 in
     let ht : t ≡ t0 = et ∙ ap (λ i. ticked_twice k i w) em in
@@ -50,9 +50,9 @@ repeat_is b e sc inner k m free after again start w t u v x y z q r em et ea eg 
     ei ∙ ap (λ i. block_known p sc i (Some after) v) em ∙ ap (λ i. block_known p sc n (Some i) v) ha ∙ ap (λ (o : Writer). block_known p sc n (Some l) o) hv in
     let hf : free ≡ i0.free = ef ∙ ap (λ (s : Scope). s.free) hi in
     let hy : y ≡ y0 =
-    ey ∙ ap (λ (s : Scope). exp_written (exp_of e) s free (Unless again) x) hi ∙ ap (λ i. exp_written (exp_of e) i0 i (Unless again) x) hf
-    ∙ ap (λ i. exp_written (exp_of e) i0 i0.free (Unless i) x) hg
-    ∙ ap (λ (o : Writer). exp_written (exp_of e) i0 i0.free (Unless (l + 1)) o) hx in
+    ey ∙ ap (λ (s : Scope). exp_written (exp_of e) s free (Unless again 0) x) hi ∙ ap (λ i. exp_written (exp_of e) i0 i (Unless again 0) x) hf
+    ∙ ap (λ i. exp_written (exp_of e) i0 i0.free (Unless i 0) x) hg
+    ∙ ap (λ (o : Writer). exp_written (exp_of e) i0 i0.free (Unless (l + 1) 0) o) hx in
     let hz : z ≡ z0 = ez ∙ ap (λ i. put (op.Jump i) y) ha ∙ ap (λ (o : Writer). put (op.Jump l) o) hy in
     let hq : q ≡ q0 = eq ∙ ap (λ i. placed_here i z) hg ∙ ap (λ (o : Writer). placed_here (l + 1) o) hz in
     let hm : m + 1 ≡ suc n = ap (λ i. i + 1) em ∙ add-one n in

@@ -1,5 +1,5 @@
 -- Lists of a tree, and what is written for them one after another.
-use Rattle.std.proofs.Common.{◌≡◌, ℕ, zero, suc, ◌+◌, ◌-◌, ◌<◌, ◌≢◌, refl, sym, ap, ◌∙◌, Bool, true, false, add-one, List, [], ◌∷◌, ◌++◌, length, map, take, drop, get_or, Option, Some, None, arith, length-append}
+use Rattle.std.proofs.Common.{◌≡◌, ℕ, zero, suc, ◌+◌, ◌-◌, ◌<◌, ◌≢◌, refl, sym, ap, ◌∙◌, false, add-one, List, [], ◌∷◌, ◌++◌, length, map, take, drop, get_or, Option, Some, None, arith, length-append}
 use Rattle.std.specs.Prelude.{slice_set, not}
 use Rattle.lua_tree.specs.Source as source
 use Rattle.lua_tree.specs.Source.{Text, Block, Stat, Branches, Elseif, Exp, Exps, NoExp, MoreExps}
@@ -11,14 +11,13 @@ use Rattle.lua_code.specs.Routine.{Routine}
 use Rattle.lua_steps.specs.Scope.{Scope}
 use Rattle.lua_steps.specs.Serves.{following}
 use Rattle.lua_compile.specs.declared.aim.Aim.{Aim}
-use Rattle.lua_compile.specs.declared.aim.Aim.TheVariants.{Into, Anywhere, Unless}
-use Rattle.lua_compile.specs.declared.aim.Room.TheVariants.{Nothing}
+use Rattle.lua_compile.specs.declared.aim.Aim.TheVariants.{Into, Unless}
 use Rattle.lua_compile.specs.declared.aim.Operand.TheVariants.{Slot}
 use Rattle.lua_compile.specs.Writer.{Writer, labelled, label_of, placed, placed_here}
 use Rattle.lua_compile.specs.Forms.{register, count, last_is_one, is_many, is_only, is_tail, only_shown, prepay, ticked, where_else}
 use Rattle.lua_compile.specs.declared.aim.Want.TheVariants.{AsResult}
 use Rattle.lua_compile.specs.Parts.{suffixed_written}
-use Rattle.lua_compile.specs.Written.{exp_written, values_written, list_written, tail_written, only_written, block_written, stat_written, else_written}
+use Rattle.lua_compile.specs.Written.{exp_written, values_written, tail_written, only_written, block_written, stat_written, else_written}
 
 pub count_exps : (es : List Expr) → count (exps_of (map exp_of es)) ≡ length es
 count_exps [] = refl
@@ -127,7 +126,7 @@ pub if_branches : (e : Exp) (p : Block) (others : Branches) (sc : Scope) (k : �
 if_branches e p others sc k exit w =
     let v = ticked k w in
     let l = label_of v in
-    ap (λ n. placed_here l (else_written others sc exit l (placed_here n (where_else others l (block_written p sc 0 exit (exp_written e sc sc.free (Unless n) (labelled (labelled v))))))))
+    ap (λ n. placed_here l (else_written others sc exit l (placed_here n (where_else others l (block_written p sc (prepay p) exit (exp_written e sc sc.free (Unless n (prepay p)) (labelled (labelled v))))))))
     (sym (label_next v))
 
 -- a tail call is a value with suffixes

@@ -30,18 +30,23 @@ use Rattle.lua_compile.specs.Writer.{Writer, emit, put, labelled, label_of, plac
 abbrev pub target_of : Aim → Target
 target_of (Into r) = stand.Into r
 target_of (Anywhere room) = stand.Anywhere
-target_of (Unless l) = stand.Decided
+target_of (Unless l pay) = stand.Decided
 
 abbrev pub register : Aim → ℕ → ℕ
 register aim d = stand.register (target_of aim) d
 
 abbrev pub is_unless : Aim → Bool
-is_unless (Unless l) = true
+is_unless (Unless l pay) = true
 is_unless _ = false
+
+-- so many ticks are paid
+abbrev pub paid_here : ℕ → Writer → Writer
+paid_here zero w = w
+paid_here (suc k) w = put (op.Tick (suc k)) w
 
 -- the value of slot r is looked at where only its truth is asked
 abbrev pub settled : Aim → ℕ → Writer → Writer
-settled (Unless l) r w = put (op.Test r l) w
+settled (Unless l pay) r w = paid_here pay (put (op.Test r l) w)
 settled _ r w = w
 
 abbrev pub differ : ℕ → ℕ → Bool
@@ -67,10 +72,10 @@ int_shown n d aim = Slot (register aim d)
 abbrev pub int_aimed : ℤ → ℕ → Aim → Writer → Writer
 int_aimed n d (Into r) w = int_written r n w
 int_aimed n d (Anywhere room) w = if has_room room n then w else int_written d n w
-int_aimed n d (Unless l) w = w
+int_aimed n d (Unless l pay) w = paid_here pay w
 
 abbrev pub true_written : ℕ → Aim → Writer → Writer
-true_written d (Unless l) w = w
+true_written d (Unless l pay) w = paid_here pay w
 true_written d aim w = put (op.Bool (register aim d) true) w
 
 abbrev pub name_shown : Option Place → ℕ → Aim → Operand
@@ -80,7 +85,7 @@ name_shown o d aim = Slot (register aim d)
 abbrev pub slot_written : ℕ → ℕ → Aim → Writer → Writer
 slot_written s d (Into r) w = put (op.Move r s) w
 slot_written s d (Anywhere room) w = w
-slot_written s d (Unless l) w = put (op.Test s l) w
+slot_written s d (Unless l pay) w = paid_here pay (put (op.Test s l) w)
 
 abbrev pub name_written : Option Place → ℕ → Aim → Writer → Writer
 name_written (Some (InSlot s)) d aim w = slot_written s d aim w
@@ -171,11 +176,11 @@ room_for true p r = Byte
 room_for false p r = if is_short p && ltb r 256 then Word else Nothing
 
 abbrev pub test_written : Binary → Operand → Operand → Aim → ℕ → Writer → Writer
-test_written o p q (Unless l) line w = some_written (test_op o (shown_of p) (shown_of q) 0 l) line w
+test_written o p q (Unless l pay) line w = some_written (test_op o (shown_of p) (shown_of q) pay l) line w
 test_written o p q aim line w = lost_if true w
 
 abbrev pub unary_slot : Unary → ℕ → ℕ → Aim → ℕ → Writer → Writer
-unary_slot unary.Not x d (Unless l) line w = put (op.TestNot x l) w
+unary_slot unary.Not x d (Unless l pay) line w = paid_here pay (put (op.TestNot x l) w)
 unary_slot o x d aim line w = settled aim (register aim d) (emit (op.Unary o (register aim d) x) line w)
 
 -- where the value so far goes
@@ -207,6 +212,15 @@ is_both _ = false
 abbrev pub all_and : Operands → Bool
 all_and NoOperand = true
 all_and (MoreOperands o line e os) = is_both (link_of o) && all_and os
+
+-- where each operand of `and` jumps, the last one pays
+abbrev pub and_pay : Operands → ℕ → ℕ
+and_pay NoOperand pay = pay
+and_pay (MoreOperands o line e os) pay = 0
+
+abbrev pub and_aim : Operands → Aim → Aim
+and_aim os (Unless l pay) = Unless l (and_pay os pay)
+and_aim os aim = aim
 
 abbrev pub is_strict : Link → Bool
 is_strict (Strict o) = true

@@ -20,7 +20,7 @@ use Rattle.lua_compile.specs.declared.aim.Operand.TheVariants.{Slot}
 use Rattle.lua_compile.specs.declared.aim.Want.{Want}
 use Rattle.lua_compile.specs.declared.aim.Want.TheVariants as want
 use Rattle.lua_compile.specs.Writer.{Writer, put, labelled, label_of, placed_here, with_constant, lost_if, counted, flag, all_known, declare_all, seen_inside, begun, resumed}
-use Rattle.lua_compile.specs.Forms.{register, is_unless, settled, differ, int_aimed, int_written, true_written, name_written, stores_written, nils_written, shown, on_slot, is_slot, binary_written, tests, room_for, test_written, unary_slot, so_far, last_settled, linked, base_aim, all_and, no_more, is_many, count, slots_fit, targets_fit, is_only, is_tail, only_shown, suffix_want, called, called_list, where_none, prepay, ticked, ticked_more, paid_before, ticked_twice, only_direct, only_slot, with_targets, directly, jumped, where_else, function_known, close_op, numeric_written, generic_written}
+use Rattle.lua_compile.specs.Forms.{register, is_unless, settled, differ, int_aimed, int_written, true_written, name_written, stores_written, nils_written, shown, on_slot, is_slot, binary_written, tests, room_for, test_written, unary_slot, so_far, last_settled, linked, base_aim, and_aim, all_and, no_more, is_many, count, slots_fit, targets_fit, is_only, is_tail, only_shown, suffix_want, called, called_list, where_none, prepay, ticked, ticked_more, paid_before, ticked_twice, only_direct, only_slot, with_targets, directly, jumped, where_else, function_known, close_op, numeric_written, generic_written}
 
 abbrev mutual
   pub exp_written : Exp → Scope → ℕ → Aim → Writer → Writer
@@ -45,13 +45,13 @@ abbrev mutual
   exp_written (source.Chain e os) sc d aim w =
       if no_more os then lost_if true w
       else if is_unless aim && all_and os
-      then ands_written os sc d aim (exp_written e sc d aim w)
+      then ands_written os sc d aim (exp_written e sc d (and_aim os aim) w)
       else operands_written os sc d aim (shown e sc.names d (base_aim os aim d)) (exp_written e sc d (base_aim os aim d) w)
 
-  -- each operand of `and` jumps where it is false
+  -- each operand of `and` jumps where it is false, and the last one pays
   pub ands_written : Operands → Scope → ℕ → Aim → Writer → Writer
   ands_written NoOperand sc d aim w = w
-  ands_written (MoreOperands o line e os) sc d aim w = ands_written os sc d aim (exp_written e sc d aim w)
+  ands_written (MoreOperands o line e os) sc d aim w = ands_written os sc d aim (exp_written e sc d (and_aim os aim) w)
 
   -- p is the value so far
   pub operands_written : Operands → Scope → ℕ → Aim → Operand → Writer → Writer
@@ -182,20 +182,20 @@ abbrev mutual
       let l = label_of v in
       let u = placed_here (l + 2) (put (op.Jump (l + 1)) (labelled (labelled (labelled v)))) in
       let t = placed_here (l + 1) (block_written p sc (prepay p) (Some l) u) in
-      placed_here l (put (op.Loop (suc (prepay p)) (l + 2)) (exp_written e sc sc.free (Unless l) t))
+      placed_here l (put (op.Loop (suc (prepay p)) (l + 2)) (exp_written e sc sc.free (Unless l 0) t))
   -- what follows, the next turn, and the body
   stat_written (source.Repeat p e) sc k exit w =
       let v = ticked_twice k (prepay p) w in
       let l = label_of v in
       let u = placed_here (l + 2) (labelled (labelled (labelled v))) in
       let inner = block_known p sc (prepay p) (Some l) u in
-      let t = exp_written e inner inner.free (Unless (l + 1)) (block_written p sc (prepay p) (Some l) u) in
+      let t = exp_written e inner inner.free (Unless (l + 1) 0) (block_written p sc (prepay p) (Some l) u) in
       placed_here l (put (op.Loop (suc (prepay p)) (l + 2)) (placed_here (l + 1) (put (op.Jump l) t)))
   -- what follows, and what is tried next
   stat_written (source.If e p others) sc k exit w =
       let v = ticked k w in
       let l = label_of v in
-      let u = block_written p sc 0 exit (exp_written e sc sc.free (Unless (l + 1)) (labelled (labelled v))) in
+      let u = block_written p sc (prepay p) exit (exp_written e sc sc.free (Unless (l + 1) (prepay p)) (labelled (labelled v))) in
       placed_here l (else_written others sc exit l (placed_here (l + 1) (where_else others l u)))
   stat_written (source.Numeric x first limit p line) sc k exit w =
       let v = exp_written first sc sc.free (Into sc.free) (ticked k w) in
@@ -219,7 +219,7 @@ abbrev mutual
   else_written (Else p) sc exit end w = block_written p sc 0 exit w
   else_written (Elseif e p others) sc exit end w =
       let l = label_of w in
-      let u = block_written p sc 0 exit (exp_written e sc sc.free (Unless l) (labelled w)) in
+      let u = block_written p sc (prepay p) exit (exp_written e sc sc.free (Unless l (prepay p)) (labelled w)) in
       else_written others sc exit end (placed_here l (where_else others end u))
 
 -- the function in which a thread begins

@@ -15,8 +15,8 @@ pub enum Aim {
     Into(u16),
     /// Where it stands, or to the first free slot.
     Anywhere(Room),
-    /// To the label where it is false; the code goes on where it is true.
-    Unless(u32),
+    /// To the label `at` where it is false; where it is true so many ticks are paid, and the code goes on.
+    Unless { at: u32, pay: u8 },
 }
 
 /// What an operation takes.

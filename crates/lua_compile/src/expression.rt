@@ -10,7 +10,8 @@ use crate::aim::{Aim, Link, Operand, Room, Want};
 use crate::list::{following, is_many, only_of, slots_fit, suffix_want};
 use crate::number::{slot_after, slot_of};
 use crate::operator::{
-    Strict, base_aim, is_slot, is_test, link_of, no_more, only_tests, room_for, so_far, unary_of,
+    Strict, and_aim, base_aim, is_slot, is_test, link_of, no_more, only_tests, room_for, so_far,
+    unary_of,
 };
 use crate::scope::Scope;
 use crate::statement::write_function;
@@ -107,7 +108,7 @@ fn write_chain(w: &mut Writer, scope: &Scope, e: &Expr, d: u16, aim: Aim) -> Res
         return Ok(());
     }
     if only_tests(operations, aim) {
-        write_exp(w, scope, base, d, aim)?;
+        write_exp(w, scope, base, d, and_aim(operations, aim))?;
         return write_ands(w, scope, operations, d, aim);
     }
     let first = base_aim(operations, aim, d);
@@ -116,7 +117,7 @@ fn write_chain(w: &mut Writer, scope: &Scope, e: &Expr, d: u16, aim: Aim) -> Res
     write_operations(w, scope, operations, d, aim, left)
 }
 
-// Each operand of `and` jumps where it is false.
+// Each operand of `and` jumps where it is false, and the last one pays.
 #[cycle(write)]
 fn write_ands(
     w: &mut Writer,
@@ -127,8 +128,9 @@ fn write_ands(
 ) -> Result<(), NoMemory>
     ensures { OnOk result (w.new ≡ ands_written (operands_of (map operand_of operations.now)) scope.now d aim w.old) }
 {
-    for operation in operations {
-        write_exp(w, scope, &operation.value, d, aim)?;
+    for (i, operation) in operations.iter().enumerate() {
+        let each = and_aim(&operations[i + 1..], aim);
+        write_exp(w, scope, &operation.value, d, each)?;
     }
     Ok(())
 }

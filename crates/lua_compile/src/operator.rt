@@ -4,7 +4,7 @@ ghost use Rattle.std.specs.Prelude.{◌≡◌, ◌&&◌, ltb, map, if◌then◌e
 ghost use Rattle.lua_tree.specs.View.{operand_of, operands_of};
 ghost use Rattle.lua_meaning.specs.Values.{link_of, unary_of};
 ghost use Rattle.lua_steps.specs.Stand.{Reg, Imm, short_op, int_op, test_op};
-ghost use Rattle.lua_compile.specs.Forms.{differ, is_unless, is_slot, is_short, on_slot, shown_of, some_written, or_else, binary_written, is_comparison, no_more, tests, room_for, test_written, unary_slot, so_far, last_settled, link_aim, base_aim, is_both, all_and};
+ghost use Rattle.lua_compile.specs.Forms.{differ, is_unless, is_slot, is_short, on_slot, shown_of, some_written, or_else, binary_written, is_comparison, no_more, tests, room_for, test_written, unary_slot, so_far, last_settled, link_aim, base_aim, and_pay, and_aim, is_both, all_and};
 ghost use Rattle.lua_compile.specs.Links.{link_in};
 
 use crate::aim::{Aim, Link, Operand, Room};
@@ -164,10 +164,9 @@ pub fn room_for(tested: bool, left: Operand, to: u16) -> Room
     }
 }
 
-fn slots_test(op: Binary, left: u8, right: u8, at: u32) -> Option<Op>
-    ensures { result ≡ test_op op (Reg left) (Reg right) 0 at }
+fn slots_test(op: Binary, left: u8, right: u8, pay: u8, at: u32) -> Option<Op>
+    ensures { result ≡ test_op op (Reg left) (Reg right) pay at }
 {
-    let pay = 0;
     match op {
         Binary::Less => Some(Op::UnlessLess {
             left,
@@ -209,10 +208,9 @@ fn slots_test(op: Binary, left: u8, right: u8, at: u32) -> Option<Op>
     }
 }
 
-fn right_int_test(op: Binary, left: u8, value: i8, at: u32) -> Option<Op>
-    ensures { result ≡ test_op op (Reg left) (Imm value) 0 at }
+fn right_int_test(op: Binary, left: u8, value: i8, pay: u8, at: u32) -> Option<Op>
+    ensures { result ≡ test_op op (Reg left) (Imm value) pay at }
 {
-    let pay = 0;
     match op {
         Binary::Less => Some(Op::UnlessLessInt {
             left,
@@ -254,10 +252,9 @@ fn right_int_test(op: Binary, left: u8, value: i8, at: u32) -> Option<Op>
     }
 }
 
-fn left_int_test(op: Binary, value: i8, left: u8, at: u32) -> Option<Op>
-    ensures { result ≡ test_op op (Imm value) (Reg left) 0 at }
+fn left_int_test(op: Binary, value: i8, left: u8, pay: u8, at: u32) -> Option<Op>
+    ensures { result ≡ test_op op (Imm value) (Reg left) pay at }
 {
-    let pay = 0;
     match op {
         Binary::Less => Some(Op::UnlessGreaterInt {
             left,
@@ -299,37 +296,43 @@ fn left_int_test(op: Binary, value: i8, left: u8, at: u32) -> Option<Op>
     }
 }
 
-fn no_test(op: Binary, left: i64, right: i64, at: u32) -> Option<Op>
-    ensures { result ≡ test_op op (Imm left) (Imm right) 0 at }
+fn no_test(op: Binary, left: i64, right: i64, pay: u8, at: u32) -> Option<Op>
+    ensures { result ≡ test_op op (Imm left) (Imm right) pay at }
 {
-    let _ = (op, left, right, at);
+    let _ = (op, left, right, pay, at);
     None
 }
 
-// The comparison that goes on where it holds, and else jumps.
-fn test_op(op: Binary, left: Operand, right: Operand, at: u32) -> Result<Option<Op>, NoMemory>
-    ensures { IfOk result (λ o. o ≡ test_op op (shown_of left) (shown_of right) 0 at) }
+// The comparison that pays and goes on where it holds, and else jumps.
+fn test_op(
+    op: Binary,
+    left: Operand,
+    right: Operand,
+    pay: u8,
+    at: u32,
+) -> Result<Option<Op>, NoMemory>
+    ensures { IfOk result (λ o. o ≡ test_op op (shown_of left) (shown_of right) pay at) }
 {
     match left {
         Operand::Slot(x) => match right {
             Operand::Slot(y) => {
                 let x = short_of(x)?;
                 let y = short_of(y)?;
-                Ok(slots_test(op, x, y, at))
+                Ok(slots_test(op, x, y, pay, at))
             }
             Operand::Constant(n) => {
                 let x = short_of(x)?;
                 let n = byte_of(n)?;
-                Ok(right_int_test(op, x, n, at))
+                Ok(right_int_test(op, x, n, pay, at))
             }
         },
         Operand::Constant(m) => match right {
             Operand::Slot(y) => {
                 let m = byte_of(m)?;
                 let y = short_of(y)?;
-                Ok(left_int_test(op, m, y, at))
+                Ok(left_int_test(op, m, y, pay, at))
             }
-            Operand::Constant(n) => Ok(no_test(op, m, n, at)),
+            Operand::Constant(n) => Ok(no_test(op, m, n, pay, at)),
         },
     }
 }
@@ -384,6 +387,29 @@ pub fn all_and(operations: &[Operation]) -> bool
         }
     }
     true
+}
+
+fn and_pay(rest: &[Operation], pay: u8) -> u8
+    ensures { result ≡ and_pay (operands_of (map operand_of rest.now)) pay }
+{
+    match rest.split_first() {
+        Some(_) => 0,
+        None => pay,
+    }
+}
+
+/// The aim of an operand that only jumps, before these others: the last one pays.
+pub fn and_aim(rest: &[Operation], aim: Aim) -> Aim
+    ensures { result ≡ and_aim (operands_of (map operand_of rest.now)) aim }
+{
+    match aim {
+        Aim::Unless { at, pay } => Aim::Unless {
+            at,
+            pay: and_pay(rest, pay),
+        },
+        Aim::Into(slot) => Aim::Into(slot),
+        Aim::Anywhere(room) => Aim::Anywhere(room),
+    }
 }
 
 /// Whether each operand of a chain only jumps where it is false.
@@ -480,8 +506,8 @@ impl<'a> Writer<'a> {
         ensures { OnOk result (self.new ≡ test_written op left right aim line self.old) }
     {
         match aim {
-            Aim::Unless(at) => {
-                let op = test_op(op, left, right, at)?;
+            Aim::Unless { at, pay } => {
+                let op = test_op(op, left, right, pay, at)?;
                 self.emit_some(op, line)
             }
             Aim::Into(_) => {
@@ -499,7 +525,10 @@ impl<'a> Writer<'a> {
         ensures { OnOk result (self.new ≡ unary_slot Unary.Not from d aim line self.old) }
     {
         match aim {
-            Aim::Unless(at) => self.put(Op::TestNot { from, at }),
+            Aim::Unless { at, pay } => {
+                self.put(Op::TestNot { from, at })?;
+                self.pay_here(pay)
+            }
             Aim::Into(to) => self.emit(
                 Op::Unary {
                     op: Unary::Not,

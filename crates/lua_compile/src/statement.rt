@@ -298,7 +298,8 @@ fn write_while(w: &mut Writer, scope: &mut Scope, stat: &Stat, paid: u8) -> Resu
     w.place_here(body);
     write_closed(w, scope, block, more, Some(after))?;
     w.place_here(again);
-    write_exp(w, scope, test, scope.free(), Aim::Unless(after))?;
+    let holds = Aim::Unless { at: after, pay: 0 };
+    write_exp(w, scope, test, scope.free(), holds)?;
     w.put(Op::Loop {
         pay: more + 1,
         at: body,
@@ -323,7 +324,8 @@ fn write_repeat(w: &mut Writer, scope: &mut Scope, stat: &Stat, paid: u8) -> Res
     w.place_here(body);
     let outside = scope.extent();
     write_block(w, scope, block, more, Some(after))?;
-    write_exp(w, scope, condition, scope.free(), Aim::Unless(again))?;
+    let holds = Aim::Unless { at: again, pay: 0 };
+    write_exp(w, scope, condition, scope.free(), holds)?;
     scope.close(outside);
     w.put(Op::Jump { at: after })?;
     w.place_here(again);
@@ -349,8 +351,10 @@ fn write_branches(
 {
     for (i, branch) in branches.iter().enumerate() {
         let next = w.new_label()?;
-        write_exp(w, scope, &branch.test, scope.free(), Aim::Unless(next))?;
-        write_closed(w, scope, &branch.block, 0, exit)?;
+        let pay = prepay(&branch.block);
+        let holds = Aim::Unless { at: next, pay };
+        write_exp(w, scope, &branch.test, scope.free(), holds)?;
+        write_closed(w, scope, &branch.block, pay, exit)?;
         w.jump_to_end(&branches[i + 1..], other, end)?;
         w.place_here(next);
     }

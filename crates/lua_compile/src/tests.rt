@@ -129,6 +129,12 @@ fn jump_line(op: Op) -> Line {
         Op::Jump { at } => ("Jump", at as i64, 0, 0),
         Op::Loop { pay, at } => ("Loop", pay as i64, at as i64, 0),
         Op::Test { from, at } => ("Test", from as i64, at as i64, 0),
+        Op::UnlessLessInt {
+            left,
+            value: 9,
+            pay,
+            at,
+        } => ("UnlessLess9", left as i64, pay as i64, at as i64),
         Op::ForPrep { pay, base, at } => ("ForPrep", pay as i64, base as i64, at as i64),
         Op::ForLoop { pay, base, at } => ("ForLoop", pay as i64, base as i64, at as i64),
         Op::ForCall { base, results } => ("ForCall", base as i64, results as i64, 0),
@@ -317,6 +323,48 @@ fn is_choice(ops: &[Op]) -> bool {
 fn both_branches_are_written(rt: HostRuntime) -> Result<(), Fail> {
     let code = compiled(rt.alloc(), choice(rt.alloc())?)?;
     assert!(rt; is_choice(main_ops(&code)));
+    Ok(())
+}
+
+// x and x < 9
+fn bounded(alloc: Global) -> Result<Expr, NoMemory> {
+    let less = binary(alloc, BinaryOp::Less, name(alloc, b"x")?, Expr::Int(9))?;
+    binary(alloc, BinaryOp::And, name(alloc, b"x")?, less)
+}
+
+// local x = 1  if x and x < 9 then x = 2 end  return x
+fn comparison(alloc: Global) -> Result<Block, NoMemory> {
+    let mut first = empty(alloc);
+    add_stat(&mut first, assign(alloc, b"x", Expr::Int(2))?)?;
+    let test = bounded(alloc)?;
+    let mut branches = Items::new(alloc);
+    branches.push(Branch { test, block: first })?;
+    let mut block = returning(alloc, name(alloc, b"x")?)?;
+    add_stat(&mut block, local(alloc, b"x", Expr::Int(1))?)?;
+    add_stat(&mut block, Stat::If(branches, None))?;
+    Ok(block)
+}
+
+fn is_comparison(ops: &[Op]) -> bool {
+    are(
+        ops,
+        &[
+            ("Int", 0, 1, 0),
+            ("Tick", 1, 0, 0),
+            ("Test", 0, 5, 0),
+            ("UnlessLess9", 0, 1, 5),
+            ("Int", 0, 2, 0),
+            ("Return", 0, 1, 0),
+            ("Return", 0, 0, 0),
+        ],
+    )
+}
+
+#[test]
+fn a_comparison_pays_for_its_branch(rt: HostRuntime) -> Result<(), Fail> {
+    let code = compiled(rt.alloc(), comparison(rt.alloc())?)?;
+    assert!(rt; valid(&code));
+    assert!(rt; is_comparison(main_ops(&code)));
     Ok(())
 }
 

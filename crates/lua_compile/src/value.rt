@@ -3,7 +3,7 @@
 ghost use Rattle.std.specs.Prelude.{◌≡◌, OnOk};
 ghost use Rattle.lua_tree.specs.View.{exp_of};
 ghost use Rattle.lua_steps.specs.declared.scope.Place.TheVariants.{InSlot};
-ghost use Rattle.lua_compile.specs.Forms.{register, is_unless, settled, between, has_room, int_written, int_shown, int_aimed, true_written, name_shown, slot_written, name_written, stored, nils_written, shown};
+ghost use Rattle.lua_compile.specs.Forms.{register, is_unless, paid_here, settled, between, has_room, int_written, int_shown, int_aimed, true_written, name_shown, slot_written, name_written, stored, nils_written, shown};
 
 use crate::aim::{Aim, Operand, Room};
 use crate::number::{slot_after, word_of};
@@ -21,7 +21,7 @@ pub fn register(aim: Aim, d: u16) -> u16
     match aim {
         Aim::Into(to) => to,
         Aim::Anywhere(_) => d,
-        Aim::Unless(_) => d,
+        Aim::Unless { .. } => d,
     }
 }
 
@@ -29,7 +29,7 @@ pub fn is_unless(aim: Aim) -> bool
     ensures { result ≡ is_unless aim }
 {
     match aim {
-        Aim::Unless(_) => true,
+        Aim::Unless { .. } => true,
         Aim::Into(_) => false,
         Aim::Anywhere(_) => false,
     }
@@ -64,7 +64,7 @@ pub fn int_shown(n: i64, d: u16, aim: Aim) -> Operand
             }
         }
         Aim::Into(_) => Operand::Slot(register(aim, d)),
-        Aim::Unless(_) => Operand::Slot(register(aim, d)),
+        Aim::Unless { .. } => Operand::Slot(register(aim, d)),
     }
 }
 
@@ -74,7 +74,7 @@ fn slot_shown(slot: u16, d: u16, aim: Aim) -> Operand
     match aim {
         Aim::Anywhere(_) => Operand::Slot(slot),
         Aim::Into(_) => Operand::Slot(register(aim, d)),
-        Aim::Unless(_) => Operand::Slot(register(aim, d)),
+        Aim::Unless { .. } => Operand::Slot(register(aim, d)),
     }
 }
 
@@ -103,12 +103,25 @@ pub fn shown(e: &Expr, scope: &Scope, d: u16, aim: Aim) -> Operand
 }
 
 impl<'a> Writer<'a> {
+    /// So many ticks are paid.
+    pub fn pay_here(&mut self, pay: u8) -> Result<(), NoMemory>
+        ensures { OnOk result (self.new ≡ paid_here pay self.old) }
+    {
+        if pay == 0 {
+            return Ok(());
+        }
+        self.put(Op::Tick { pay })
+    }
+
     /// The value of a slot is looked at where only its truth is asked.
     pub fn settle(&mut self, aim: Aim, slot: u16) -> Result<(), NoMemory>
         ensures { OnOk result (self.new ≡ settled aim slot self.old) }
     {
         match aim {
-            Aim::Unless(at) => self.put(Op::Test { from: slot, at }),
+            Aim::Unless { at, pay } => {
+                self.put(Op::Test { from: slot, at })?;
+                self.pay_here(pay)
+            }
             Aim::Into(_) => Ok(()),
             Aim::Anywhere(_) => Ok(()),
         }
@@ -136,7 +149,7 @@ impl<'a> Writer<'a> {
                 }
                 self.write_int(d, n)
             }
-            Aim::Unless(_) => Ok(()),
+            Aim::Unless { pay, .. } => self.pay_here(pay),
         }
     }
 
@@ -144,7 +157,7 @@ impl<'a> Writer<'a> {
         ensures { OnOk result (self.new ≡ true_written d aim self.old) }
     {
         match aim {
-            Aim::Unless(_) => Ok(()),
+            Aim::Unless { pay, .. } => self.pay_here(pay),
             Aim::Into(to) => self.put(Op::Bool { to, value: true }),
             Aim::Anywhere(_) => self.put(Op::Bool { to: d, value: true }),
         }
@@ -159,7 +172,10 @@ impl<'a> Writer<'a> {
                 from: slot,
             }),
             Aim::Anywhere(_) => Ok(()),
-            Aim::Unless(at) => self.put(Op::Test { from: slot, at }),
+            Aim::Unless { at, pay } => {
+                self.put(Op::Test { from: slot, at })?;
+                self.pay_here(pay)
+            }
         }
     }
 

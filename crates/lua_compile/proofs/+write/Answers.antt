@@ -1,5 +1,5 @@
 use Rattle.std.proofs.Common.{ap, sym, ◌∙◌, drop}
-use Rattle.lua_compile.proofs.LoopLemmas.{on_ok, operations_next, one_left, list_next, values_next, pushed, function_is, unary_is, block_returns, generic_is, local_function_is}
+use Rattle.lua_compile.proofs.LoopLemmas.{on_ok, ands_next, operations_next, one_left, list_next, values_next, pushed, function_is, unary_is, block_returns, generic_is, local_function_is}
 use Rattle.lua_compile.proofs.StatLemmas.{repeat_is, if_is, numeric_for_is, local_function_made}
 use Rattle.std.specs.Prelude.{Some}
 use Rattle.lua_tree.specs.declared.tree.Expr.{Expr}
@@ -8,14 +8,12 @@ use Rattle.lua_tree.specs.View.{body_of}
 use Rattle.lua_compile.specs.Writer.{resumed}
 use Rattle.lua_compile.specs.Written.{body_written}
 use Rattle.lua_steps.specs.Serves.{following}
-use Rattle.lua_tree.specs.View.{stat_of, generic_of}
-use Rattle.lua_compile.specs.Forms.{register}
+use Rattle.lua_tree.specs.View.{stat_of}
 use Rattle.lua_compile.specs.Written.{stat_written}
-use Rattle.std.proofs.Common.{rules, ◌≡◌, ◌+◌, ◌∷◌, map, IfOk, OnOk, ℕ, ◌-◌, ◌*◌, ◌<◌, ◌≤◌, length, ◌/◌, ◌%◌, Bool, true, false, nat_eq, nat_lt, List, [], ◌++◌, slice_index_or, slice_set, bit_and, bit_or, Fits, w8, w32, w64, Bor, MutBor, ℤ, pos, ◌+ℤ◌, ◌-ℤ◌, ◌*ℤ◌, ◌≤ℤ◌, ◌<ℤ◌, FitsSigned, to_z, of_z}
-use Rattle.lua_tree.specs.Source.{NoExp, MoreExps, Call, NoSuffix, MoreSuffixes}
-use Rattle.lua_tree.specs.View.{exp_of, exps_of, operand_of, operands_of, suffix_of, suffixes_of}
-use Rattle.lua_compile.specs.Parts.{suffixed_written, chain_written, repeat_written}
-use Rattle.lua_compile.specs.Written.{exp_written, ands_written, operands_written, suffixes_written, fixed_written, values_written, many_written, list_written, all_written, tail_written, only_written}
+use Rattle.std.proofs.Common.{◌+◌, map, ◌-◌, length, List}
+use Rattle.lua_tree.specs.View.{exp_of, exps_of}
+use Rattle.lua_compile.specs.Parts.{repeat_written}
+use Rattle.lua_compile.specs.Written.{exp_written, values_written, list_written}
 use Rattle.lua_compile.proofs.+write.Goals as goal
 
 -- src/expression.rt:26:1
@@ -48,6 +46,12 @@ pub expression::write_list-loop-i-preserved : goal.expression::write_list-loop-i
 expression::write_list-loop-i-preserved t c =
     ap (λ v. list_written (exps_of (map exp_of (drop (c.loop-i.i + 1) c.args.es.now))) c.args.scope.now c.args.d v) (c.in_ok-push_shown.ensures ∙ pushed c.shown.result _ c.write_exp.new.w _ c.shown.ensures c.in_ok-write_exp.ensures)
     ∙ sym (list_next c.args.es.now c.loop-i.i c.index-es-i.result c.args.scope.now c.args.d c.loop-i.w c.loop-i-test.true c.if-i-es.false c.index-es-i.is)
+    ∙ c.loop-i.invariant
+
+-- src/expression.rt:128:5
+pub expression::write_ands-loop-i-preserved : goal.expression::write_ands-loop-i-preserved
+expression::write_ands-loop-i-preserved t c =
+    ands_next c.args.operations.now c.loop-i.i c.index-operations-i.result c.args.scope.now c.args.d c.args.aim c.and_aim-each.result c.loop-i.w c.write_exp.new.w c.loop-i-test.true c.index-operations-i.is c.and_aim-each.ensures c.in_ok-write_exp.ensures
     ∙ c.loop-i.invariant
 
 -- src/expression.rt:148:5

@@ -3,9 +3,9 @@ use Rattle.lua_tree.specs.View.{exp_of, exps_of, operand_of, operands_of, suffix
 use Rattle.lua_compile.specs.Written.{ands_written, operands_written, suffixes_written, fixed_written, values_written, list_written, stats_written, stats_known, else_written}
 use Rattle.lua_compile.proofs.+write.Given as goal
 
-abbrev pub invariant-expression::write_ands-loop-operation : goal.invariant-expression::write_ands-loop-operation
-invariant-expression::write_ands-loop-operation l =
-    ands_written (operands_of (map operand_of (drop l.operation-index l.operations))) l.scope l.d l.aim l.w
+abbrev pub invariant-expression::write_ands-loop-i : goal.invariant-expression::write_ands-loop-i
+invariant-expression::write_ands-loop-i l =
+    ands_written (operands_of (map operand_of (drop l.i l.operations))) l.scope l.d l.aim l.w
     ≡ ands_written (operands_of (map operand_of l.operations)) l.scope l.d l.aim l.fn.w
 
 abbrev pub invariant-expression::write_operations-loop-i : goal.invariant-expression::write_operations-loop-i

@@ -1,4 +1,4 @@
-use Rattle.std.proofs.Common.{◌≡◌, ℕ}
+use Rattle.std.proofs.Common.{◌≡◌}
 use Rattle.lua_compile.specs.Forms.{nils_written}
 use Rattle.lua_compile.proofs.writer.Writer.write_nils.Given as goal
 
