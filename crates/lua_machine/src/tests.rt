@@ -387,3 +387,77 @@ fn a_machine_that_failed_is_spent(rt: HostRuntime) -> Result<(), Fail> {
     assert!(rt; matches!(second, Err(GoError::Spent)));
     Ok(())
 }
+
+/// A function that calls itself: the Fibonacci number of its argument.
+fn fibonacci(alloc: Global) -> Result<Function, Fail> {
+    let ops = [
+        Op::UnlessLessInt {
+            left: 0,
+            value: 2,
+            pay: 1,
+            at: 2,
+        },
+        Op::Return { from: 0, count: 1 },
+        Op::GetUp { to: 1, up: 0 },
+        Op::AddInt {
+            to: 2,
+            left: 0,
+            value: -1,
+        },
+        Op::Call {
+            base: 1,
+            args: 1,
+            results: 1,
+        },
+        Op::GetUp { to: 2, up: 0 },
+        Op::AddInt {
+            to: 3,
+            left: 0,
+            value: -2,
+        },
+        Op::Call {
+            base: 2,
+            args: 1,
+            results: 1,
+        },
+        Op::Add {
+            to: 1,
+            left: 1,
+            right: 2,
+        },
+        Op::Return { from: 1, count: 1 },
+    ];
+    let mut called = function(alloc, 1, &ops)?;
+    called.set_shape(Shape {
+        params: 1,
+        pay: 1,
+        has_dots: false,
+        slots: 8,
+        cells: 1,
+    });
+    called.add_capture(Capture::Cell(0))?;
+    Ok(called)
+}
+
+#[test]
+fn calls_stay_in_place(rt: HostRuntime) -> Result<(), Fail> {
+    let alloc = rt.alloc();
+    let ops = [
+        Op::CloseCell {
+            cell: 0,
+            function: 1,
+        },
+        Op::GetCell { to: 0, cell: 0 },
+        Op::Int { to: 1, value: 10 },
+        Op::Call {
+            base: 0,
+            args: 1,
+            results: 1,
+        },
+        Op::Return { from: 0, count: 1 },
+    ];
+    let code = code(alloc, fibonacci(alloc)?, &ops)?;
+    let mut machine = machine(alloc, code, 10_000, 100)?;
+    assert!(rt; integers(machine.go(Values::new(alloc)), &[55]));
+    Ok(())
+}
