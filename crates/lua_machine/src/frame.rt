@@ -1,4 +1,4 @@
-ghost use Rattle.std.specs.Prelude.{◌≡◌, [], ◌∷◌, ◌<◌, OnOk};
+ghost use Rattle.std.specs.Prelude.{◌≡◌, [], ◌∷◌, ◌<◌, OnOk, replicate};
 ghost use Rattle.lua_steps.specs.Moves.{at_next};
 ghost use Rattle.lua_steps.specs.Calls.{waiting};
 ghost use Rattle.lua_machine.specs.Wants.{wanted_of};
@@ -54,6 +54,40 @@ impl Model for Frame {
     } };
 }
 
+/// So many cells that nothing was put into.
+#[inline(always)]
+fn forget_cells(kept: &mut Vec<u64>, count: u16) -> Result<(), NoMemory>
+    ensures { OnOk result (kept.new.items ≡ replicate count 0) }
+{
+    kept.clear();
+    if count == 0 {
+        return Ok(());
+    }
+    kept.resize(count as usize, 0)?;
+    Ok(())
+}
+
+/// These cells, in place of those that were kept.
+#[inline(always)]
+fn take_over(kept: &mut Vec<u64>, cells: &[u64]) -> Result<(), NoMemory>
+    ensures { OnOk result (kept.new.items ≡ cells.now) }
+{
+    kept.clear();
+    'cells: for cell in cells {
+        kept.push(*cell)?;
+    }
+    Ok(())
+}
+
+#[inline(always)]
+fn forget_lists(kept: &mut VecDeque<Values>)
+    ensures { kept.new.items ≡ [] }
+{
+    if !kept.is_empty() {
+        kept.clear();
+    }
+}
+
 impl Frame {
     pub fn advance(&mut self)
         requires { self.old.at < usize.MAX }
@@ -93,12 +127,10 @@ impl Frame {
         self.function = function;
         self.at = 0;
         self.base = base;
-        self.cells.clear();
-        self.cells.resize(cells as usize, 0)?;
-        self.ups.clear();
-        self.ups.extend_from_slice(ups)?;
+        forget_cells(&mut self.cells, cells)?;
+        take_over(&mut self.ups, ups)?;
         self.dots.clear();
-        self.lists.clear();
+        forget_lists(&mut self.lists);
         self.wants = Wanted::OnTop;
         Ok(())
     }

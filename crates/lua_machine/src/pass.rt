@@ -1,16 +1,15 @@
 //! Calls and returns that take nothing new: the arguments and the results stay in the row, and a dead frame serves.
 
-ghost use Rattle.std.specs.Prelude.{◌≡◌, ◌<◌, slice_get, option_copied};
+ghost use Rattle.std.specs.Prelude.{◌≡◌, ◌<◌, Some, IfSome, slice_get, option_copied};
 ghost use Rattle.lua_code.specs.declared.op.Op.TheVariants as op;
 ghost use Rattle.lua_value.specs.Lists.{value_at};
 ghost use Rattle.lua_steps.specs.Moves.{slots_from};
 ghost use Rattle.lua_steps.specs.Calls.{hand};
-ghost use Rattle.lua_steps.specs.Exec.{perform};
+ghost use Rattle.lua_steps.specs.Exec.{op_at, perform};
 ghost use Rattle.lua_machine.specs.Passes.{Passed, Passes, FitsIf};
 
 use crate::calls::room;
 use crate::frame::Wanted;
-use crate::run::fetch;
 use crate::state::State;
 use lua_code::{Function, Op, Shape};
 use lua_value::Value;
@@ -113,11 +112,12 @@ impl State {
 
     /// The next operation, where it is such a call or return.
     #[inline(always)]
-    pub fn pass(&mut self, code: &[Function]) -> bool
+    pub fn pass(&mut self, code: &[Function], next: Option<Op>) -> bool
+        requires op { IfSome next (λ op. op_at code.now self.old.top.function self.old.top.at ≡ Some op) }
+        requires place { IfSome next (λ op. self.old.top.at < usize.MAX) }
         ensures { Passes result code.now self.old self.new }
     {
-        let top = self.stack.top();
-        let Some(op) = fetch(code, top.function, top.at) else {
+        let Some(op) = next else {
             return false;
         };
         match op {

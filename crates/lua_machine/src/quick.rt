@@ -9,7 +9,7 @@ ghost use Rattle.lua_code.specs.Valid.{IsValid};
 ghost use Rattle.lua_machine.specs.Quick.{Quick, OnSlots, Within, Near, IsGiven, IsOfSlots, IsOfInt, IsTestOfSlots, IsTestOfInt, Turns, Ran, Led};
 
 use crate::cells::{cell_of, cell_value, put_in_cell};
-use crate::pace::Pace;
+use crate::pace::{Pace, Reached};
 use crate::slots::{
     after, chooses, computed, gives, long, pays, put_turn, short, slot, slot_after, tiny,
 };
@@ -596,12 +596,14 @@ pub fn block(
     own: &[u64],
     ups: &[u64],
     start: Pace,
-) -> Pace
+) -> Reached
     requires valid { IsValid code.now }
     requires routine { slice_get code.now _function ≡ Some routine.now }
     requires slots { routine.now.shape.slots ≤ length row.old }
     requires place { start.at < length routine.now.ops }
-    ensures ran { Ran code.now _function own.now ups.now row.old heap.old.cells start row.new heap.new.cells result }
+    ensures ran { Ran code.now _function own.now ups.now row.old heap.old.cells start row.new heap.new.cells result.pace }
+    ensures op { slice_get routine.now.ops result.pace.at ≡ Some result.op }
+    ensures place { result.pace.at < usize.MAX }
     ensures heap { heap.new ≡ record heap.old { cells = heap.new.cells } }
 {
     law_measure_falls();
@@ -610,7 +612,7 @@ pub fn block(
     'quick: loop {
         let op = fetch(ops, pace.at);
         let Some(next) = quick(op, row, heap, own, ups, pace, ops.len()) else {
-            return pace;
+            return Reached { pace, op };
         };
         pace = next;
     }
@@ -628,12 +630,14 @@ pub fn block_at(
     own: &[u64],
     ups: &[u64],
     start: Pace,
-) -> Pace
+) -> Reached
     requires valid { IsValid code.now }
     requires routine { slice_get code.now _function ≡ Some routine.now }
     requires slots { base + routine.now.shape.slots ≤ length row.old }
     requires place { start.at < length routine.now.ops }
-    ensures led { Led code.now _function own.now ups.now base row.old heap.old.cells start row.new heap.new.cells result }
+    ensures led { Led code.now _function own.now ups.now base row.old heap.old.cells start row.new heap.new.cells result.pace }
+    ensures op { slice_get routine.now.ops result.pace.at ≡ Some result.op }
+    ensures place { result.pace.at < usize.MAX }
     ensures heap { heap.new ≡ record heap.old { cells = heap.new.cells } }
 {
     let (_before, slots) = row.split_at_mut(base);

@@ -1,4 +1,4 @@
-ghost use Rattle.std.specs.Prelude.{◌≡◌, ◌<◌, false, slice_get, IfOk, IfErr, OnSome};
+ghost use Rattle.std.specs.Prelude.{◌≡◌, ◌<◌, false, slice_get, IfOk, IfErr, IfSome, OnSome, Some};
 ghost use Rattle.lua_code.specs.Valid.{IsValid};
 ghost use Rattle.lua_steps.specs.Machine as steps;
 ghost use Rattle.lua_steps.specs.Calls.{given};
@@ -52,11 +52,13 @@ impl State {
         }
     }
 
-    /// Quick operations, up to one that is not or that comes to a stop. The frame's slots are there in every run of compiled code.
+    /// Quick operations, up to one that is not or that comes to a stop, which is answered. The frame's slots are there in every run of compiled code.
     #[inline(always)]
-    fn hurry(&mut self, code: &[Function])
+    fn hurry(&mut self, code: &[Function]) -> Option<Op>
         requires { IsValid code.now }
-        ensures { Runs code.now self.old (steps.On self.new) }
+        ensures runs { Runs code.now self.old (steps.On self.new) }
+        ensures op { IfSome result (λ op. op_at code.now self.new.top.function self.new.top.at ≡ Some op) }
+        ensures place { IfSome result (λ op. self.new.top.at < usize.MAX) }
     {
         let top = self.stack.top();
         let function = top.function;
@@ -66,18 +68,19 @@ impl State {
             left: self.left,
         };
         let Some(routine) = code.get(function as usize) else {
-            return;
+            return None;
         };
         let end = base + routine.shape().slots as usize;
         if start.at >= routine.ops().len() || self.row.len() < end {
-            return;
+            return None;
         }
         let own = top.cells.as_slice();
         let ups = top.ups.as_slice();
         let row = self.row.as_mut_slice();
         let heap = &mut self.heap;
-        let pace = block_at(code, function, routine, row, base, heap, own, ups, start);
-        self.settle(pace);
+        let reached = block_at(code, function, routine, row, base, heap, own, ups, start);
+        self.settle(reached.pace);
+        Some(reached.op)
     }
 
     /// Runs to the next stop. The values go to the frame that waits for them.
@@ -90,8 +93,8 @@ impl State {
         law_measure_falls();
         self.receive(values)?;
         'operations: loop {
-            self.hurry(code);
-            if self.pass(code) {
+            let reached = self.hurry(code);
+            if self.pass(code, reached) {
                 continue;
             }
             match self.step(code)? {

@@ -17,7 +17,6 @@ use lua_value::{Value, Values};
 use sk_types::{Bytes, NoMemory};
 use std::alloc::Global;
 use std::marker::Model;
-use std::mem;
 
 /// The thread that runs, and what it has made.
 #[derive(Drop)]

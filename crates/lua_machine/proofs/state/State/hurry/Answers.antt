@@ -5,12 +5,12 @@ use Rattle.lua_steps.specs.Machine.{Busy, Machine}
 use Rattle.lua_machine.proofs.QuickLemmas.{hurried, taken_all}
 use Rattle.lua_machine.proofs.state.State.hurry.Goals as goal
 
-pub returns : goal.returns
-returns c =
+pub returns-clause-runs : goal.returns-clause-runs
+returns-clause-runs c =
     let s = c.self.inside in
-    let row = c.block_at-pace.new.row in
-    let heap = c.block_at-pace.new.heap in
-    let pace = c.block_at-pace.result in
+    let row = c.block_at-reached.new.row in
+    let heap = c.block_at-reached.new.heap in
+    let pace = c.block_at-reached.result.pace in
     let with_row : List Value → Contents → Machine = λ r h.
     record {
       top = record s.stack.top { at = pace.at };
@@ -23,7 +23,7 @@ returns c =
     } in
     let after =
     c.settle.ensures
-    ∙ ap (λ (r : List Value). with_row r heap) (taken_all s.row.len row (drop (length row) s.row.items) (c.block_at-pace.auto.row ∙ c.as_mut_slice-row.ensures.len))
-    ∙ ap (λ (h : Contents). with_row row h) c.block_at-pace.ensures.heap
+    ∙ ap (λ (r : List Value). with_row r heap) (taken_all s.row.len row (drop (length row) s.row.items) (c.block_at-reached.auto.row ∙ c.as_mut_slice-row.ensures.len))
+    ∙ ap (λ (h : Contents). with_row row h) c.block_at-reached.ensures.heap
     ∙ ap (λ (m : Machine). record m { top = record m.top { at = pace.at }; row = row; cells = heap.cells; left = pace.left }) c.self.view_is in
-    hurried _ _ _ _ _ _ _ _ _ _ _ _ _ c.block_at-pace.ensures.led (search rules) (search rules) (search rules) (search rules) (search rules) (search rules) (search rules) (search rules) after
+    hurried _ _ _ _ _ _ _ _ _ _ _ _ _ c.block_at-reached.ensures.led (search rules) (search rules) (search rules) (search rules) (search rules) (search rules) (search rules) (search rules) after
