@@ -307,21 +307,21 @@ fn constant(_op: Op, row: &mut [Value], to: u16, n: i32, pace: Pace) -> Pace
 
 /// An operation that touches slots alone, if it is quick and comes to no stop. There are so many operations.
 #[inline(always)]
-fn on_slots(op: Op, row: &mut [Value], pace: Pace, _count: usize) -> Option<Pace>
-    requires within { Within (length row.old) op }
-    requires near { Near _count pace.at op }
+fn on_slots(op: &Op, row: &mut [Value], pace: Pace, _count: usize) -> Option<Pace>
+    requires within { Within (length row.old) op.now }
+    requires near { Near _count pace.at op.now }
     requires place { pace.at < _count }
-    ensures ok { IfSome result (λ p. OnSlots op row.old pace row.new p) }
+    ensures ok { IfSome result (λ p. OnSlots op.now row.old pace row.new p) }
     ensures place { IfSome result (λ p. p.at < _count) }
     ensures none { IfNone result (row.new ≡ row.old) }
 {
-    match op {
-        Op::Nil { to } => Some(given(op, row, to, Value::Nil, pace)),
-        Op::Bool { to, value } => Some(given(op, row, to, Value::Bool(value), pace)),
-        Op::Int { to, value } => Some(constant(op, row, to, value, pace)),
-        Op::Move { to, from } => Some(moves(op, row, to, from, pace)),
+    match *op {
+        Op::Nil { to } => Some(given(*op, row, to, Value::Nil, pace)),
+        Op::Bool { to, value } => Some(given(*op, row, to, Value::Bool(value), pace)),
+        Op::Int { to, value } => Some(constant(*op, row, to, value, pace)),
+        Op::Move { to, from } => Some(moves(*op, row, to, from, pace)),
         Op::Add { to, left, right } => of_slots(
-            op,
+            *op,
             Binary::Add,
             row,
             u16::from(to),
@@ -330,7 +330,7 @@ fn on_slots(op: Op, row: &mut [Value], pace: Pace, _count: usize) -> Option<Pace
             pace,
         ),
         Op::Sub { to, left, right } => of_slots(
-            op,
+            *op,
             Binary::Sub,
             row,
             u16::from(to),
@@ -339,7 +339,7 @@ fn on_slots(op: Op, row: &mut [Value], pace: Pace, _count: usize) -> Option<Pace
             pace,
         ),
         Op::Mul { to, left, right } => of_slots(
-            op,
+            *op,
             Binary::Mul,
             row,
             u16::from(to),
@@ -348,7 +348,7 @@ fn on_slots(op: Op, row: &mut [Value], pace: Pace, _count: usize) -> Option<Pace
             pace,
         ),
         Op::AddInt { to, left, value } => of_int(
-            op,
+            *op,
             Binary::Add,
             row,
             u16::from(to),
@@ -357,7 +357,7 @@ fn on_slots(op: Op, row: &mut [Value], pace: Pace, _count: usize) -> Option<Pace
             pace,
         ),
         Op::MulInt { to, left, value } => of_int(
-            op,
+            *op,
             Binary::Mul,
             row,
             u16::from(to),
@@ -370,34 +370,34 @@ fn on_slots(op: Op, row: &mut [Value], pace: Pace, _count: usize) -> Option<Pace
             to,
             left,
             right,
-        } => of_slots(op, o, row, to, left, right, pace),
+        } => of_slots(*op, o, row, to, left, right, pace),
         Op::BinaryInt {
             op: o,
             to,
             left,
             value,
-        } => of_int(op, o, row, u16::from(to), u16::from(left), value, pace),
-        Op::Tick { pay } => pays_on(op, row, pay, pace),
+        } => of_int(*op, o, row, u16::from(to), u16::from(left), value, pace),
+        Op::Tick { pay } => pays_on(*op, row, pay, pace),
         Op::Jump { at } => Some(Pace {
             at: at as usize,
             left: pace.left,
         }),
-        Op::Loop { pay, at } => pays_and_jumps(op, row, pay, at, pace),
-        Op::Test { from, at } => tests(op, row, from, at, pace, _count),
-        Op::TestNot { from, at } => Some(tests_not(op, row, from, at, pace, _count)),
+        Op::Loop { pay, at } => pays_and_jumps(*op, row, pay, at, pace),
+        Op::Test { from, at } => tests(*op, row, from, at, pace, _count),
+        Op::TestNot { from, at } => Some(tests_not(*op, row, from, at, pace, _count)),
         Op::UnlessLess {
             left,
             right,
             pay,
             at,
-        } => test_of_slots(op, Binary::Less, row, left, right, pay, at, pace, _count),
+        } => test_of_slots(*op, Binary::Less, row, left, right, pay, at, pace, _count),
         Op::UnlessLessEqual {
             left,
             right,
             pay,
             at,
         } => test_of_slots(
-            op,
+            *op,
             Binary::LessEqual,
             row,
             left,
@@ -412,14 +412,14 @@ fn on_slots(op: Op, row: &mut [Value], pace: Pace, _count: usize) -> Option<Pace
             right,
             pay,
             at,
-        } => test_of_slots(op, Binary::Equal, row, left, right, pay, at, pace, _count),
+        } => test_of_slots(*op, Binary::Equal, row, left, right, pay, at, pace, _count),
         Op::UnlessNotEqual {
             left,
             right,
             pay,
             at,
         } => test_of_slots(
-            op,
+            *op,
             Binary::NotEqual,
             row,
             left,
@@ -435,7 +435,7 @@ fn on_slots(op: Op, row: &mut [Value], pace: Pace, _count: usize) -> Option<Pace
             pay,
             at,
         } => test_of_int(
-            op,
+            *op,
             Binary::Less,
             row,
             u16::from(left),
@@ -451,7 +451,7 @@ fn on_slots(op: Op, row: &mut [Value], pace: Pace, _count: usize) -> Option<Pace
             pay,
             at,
         } => test_of_int(
-            op,
+            *op,
             Binary::LessEqual,
             row,
             u16::from(left),
@@ -467,7 +467,7 @@ fn on_slots(op: Op, row: &mut [Value], pace: Pace, _count: usize) -> Option<Pace
             pay,
             at,
         } => test_of_int(
-            op,
+            *op,
             Binary::Greater,
             row,
             u16::from(left),
@@ -483,7 +483,7 @@ fn on_slots(op: Op, row: &mut [Value], pace: Pace, _count: usize) -> Option<Pace
             pay,
             at,
         } => test_of_int(
-            op,
+            *op,
             Binary::GreaterEqual,
             row,
             u16::from(left),
@@ -499,7 +499,7 @@ fn on_slots(op: Op, row: &mut [Value], pace: Pace, _count: usize) -> Option<Pace
             pay,
             at,
         } => test_of_int(
-            op,
+            *op,
             Binary::Equal,
             row,
             u16::from(left),
@@ -515,7 +515,7 @@ fn on_slots(op: Op, row: &mut [Value], pace: Pace, _count: usize) -> Option<Pace
             pay,
             at,
         } => test_of_int(
-            op,
+            *op,
             Binary::NotEqual,
             row,
             u16::from(left),
@@ -533,7 +533,7 @@ fn on_slots(op: Op, row: &mut [Value], pace: Pace, _count: usize) -> Option<Pace
 /// One operation, if it is quick and comes to no stop. Of the heap it touches the cells alone.
 #[inline(always)]
 fn quick(
-    op: Op,
+    op: &Op,
     row: &mut [Value],
     heap: &mut Heap,
     own: &[u64],
@@ -541,15 +541,15 @@ fn quick(
     pace: Pace,
     _count: usize,
 ) -> Option<Pace>
-    requires within { Within (length row.old) op }
-    requires near { Near _count pace.at op }
+    requires within { Within (length row.old) op.now }
+    requires near { Near _count pace.at op.now }
     requires place { pace.at < _count }
-    ensures ok { IfSome result (λ p. Quick op own.now ups.now row.old heap.old.cells pace row.new heap.new.cells p) }
+    ensures ok { IfSome result (λ p. Quick op.now own.now ups.now row.old heap.old.cells pace row.new heap.new.cells p) }
     ensures place { IfSome result (λ p. p.at < _count) }
     ensures none { IfNone result ((row.new ≡ row.old) × (heap.new ≡ heap.old)) }
     ensures heap { heap.new ≡ record heap.old { cells = heap.new.cells } }
 {
-    match op {
+    match *op {
         Op::GetCell { to, cell } => {
             let value = cell_value(heap, cell_of(own, cell));
             Some(gives(row, to, value, pace))
@@ -578,11 +578,11 @@ fn quick(
 
 /// The operation at a place that is there.
 #[inline(always)]
-fn fetch(ops: &[Op], at: usize) -> Op
+fn fetch(ops: &[Op], at: usize) -> &Op
     requires { at < length ops.now }
-    ensures { slice_get ops.now at ≡ Some result }
+    ensures { slice_get ops.now at ≡ Some result.now }
 {
-    ops[at]
+    &ops[at]
 }
 
 /// Quick operations of a function, up to one that is not or that comes to a stop. The row begins with the frame's slots.
@@ -612,7 +612,7 @@ pub fn block(
     'quick: loop {
         let op = fetch(ops, pace.at);
         let Some(next) = quick(op, row, heap, own, ups, pace, ops.len()) else {
-            return Reached { pace, op };
+            return Reached { pace, op: *op };
         };
         pace = next;
     }
