@@ -6,3 +6,4 @@ pub mod LoopLemmas
 pub mod PassLemmas
 pub mod QuickLemmas
 pub mod FollowLemmas
+pub mod StretchLemmas

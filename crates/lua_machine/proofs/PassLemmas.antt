@@ -34,7 +34,7 @@ grown_none n row le =
 
 pub passes_call : (code : Code) (m : Machine) (base args results k place : ℕ) (c : Closure) (f : Routine) (s : Stacked) → slot m base ≡ value.Func k → slice_get m.closures k ≡ Some c → slice_get code c.function ≡ Some f
     → place ≡ m.top.base + (base + 1) → Fits f.shape args place (length m.row) m.left → s ≡ record { top = plain c f.shape.cells place; below = waiting (InSlots base results) m.top ∷ m.below }
-    → perform code (op.Call base args results) m ≡ On (record m { top = s.top; below = s.below; left = m.left - f.shape.pay })
+    → perform code (op.Call base args results) m ≡ On (record m { top = record s.top { at = 0 }; below = s.below; left = m.left - f.shape.pay })
 passes_call code m base args results k place c f s is_func is_closure is_routine is_place fits is_entered =
     let at = Some (line code m) in
     let vs = slots_from m (base + 1) args in
@@ -54,4 +54,4 @@ passes_call code m base args results k place c f s is_func is_closure is_routine
     ∙ ap (λ (x : List Value). On (record m { left = left; top = plain c f.shape.cells place; below = w ∷ m.below; row = written x place (adjusted n vs) })) (grown_none (place + room f.shape) m.row fits.long_enough)
     ∙ ap (λ (x : List Value). On (record m { left = left; top = plain c f.shape.cells place; below = w ∷ m.below; row = written m.row place (adjusted n x) })) stand
     ∙ ap (λ (x : List Value). On (record m { left = left; top = plain c f.shape.cells place; below = w ∷ m.below; row = x })) (written_own n args place m.row fits.filled)
-    ∙ ap (λ (x : Stacked). On (record m { left = left; top = x.top; below = x.below })) (sym is_entered)
+    ∙ ap (λ (x : Stacked). On (record m { left = left; top = record x.top { at = 0 }; below = x.below })) (sym is_entered)

@@ -257,9 +257,9 @@ hurried code m to f base own ups row cells after later start pace run same_f sam
     ∙ sym same in
     subst (λ (x : Machine). Runs code x (On to)) begun (subst (λ (x : Machine). Runs code (placed f own ups base row cells start m) (On x)) ended (run.is m))
 
-took : (xs ys : List Value) → take (length xs) (xs ++ ys) ≡ xs
+took : {A : Type 0} (xs ys : List A) → take (length xs) (xs ++ ys) ≡ xs
 took [] ys = refl
-took (x ∷ xs) ys = ap (λ (zs : List Value). x ∷ zs) (took xs ys)
+took (x ∷ xs) ys = ap (λ (zs : List _). x ∷ zs) (took xs ys)
 
-pub taken_all : (n : ℕ) (xs ys : List Value) → length xs ≡ n → take n (xs ++ ys) ≡ xs
+pub taken_all : {A : Type 0} (n : ℕ) (xs ys : List A) → length xs ≡ n → take n (xs ++ ys) ≡ xs
 taken_all n xs ys e = ap (λ (k : ℕ). take k (xs ++ ys)) (sym e) ∙ took xs ys

@@ -6,3 +6,4 @@ pub mod Runs
 pub mod Follows
 pub mod Passes
 pub mod Quick
+pub mod Stretch

@@ -1,4 +1,4 @@
-ghost use Rattle.std.specs.Prelude.{◌≡◌, [], ◌∷◌, ◌<◌, OnOk, replicate};
+ghost use Rattle.std.specs.Prelude.{◌≡◌, [], ◌∷◌, ◌<◌, length, OnOk, replicate};
 ghost use Rattle.lua_steps.specs.Moves.{at_next};
 ghost use Rattle.lua_steps.specs.Calls.{waiting};
 ghost use Rattle.lua_machine.specs.Wants.{wanted_of};
@@ -67,15 +67,28 @@ fn forget_cells(kept: &mut Vec<u64>, count: u16) -> Result<(), NoMemory>
     Ok(())
 }
 
+/// These cells, in the place of as many others.
+#[inline(always)]
+fn copy_over(kept: &mut [u64], cells: &[u64])
+    requires { length kept.old ≡ length cells.now }
+    ensures { kept.new ≡ cells.now }
+{
+    'cells: for i in 0..cells.len() {
+        kept[i] = cells[i];
+    }
+}
+
 /// These cells, in place of those that were kept.
 #[inline(always)]
 fn take_over(kept: &mut Vec<u64>, cells: &[u64]) -> Result<(), NoMemory>
     ensures { OnOk result (kept.new.items ≡ cells.now) }
 {
-    kept.clear();
-    'cells: for cell in cells {
-        kept.push(*cell)?;
+    if kept.len() == cells.len() {
+        copy_over(kept.as_mut_slice(), cells);
+        return Ok(());
     }
+    kept.clear();
+    kept.extend_from_slice(cells)?;
     Ok(())
 }
 
@@ -100,6 +113,16 @@ impl Frame {
         ensures { self.new ≡ record self.old { at = to } }
     {
         self.at = to as usize;
+    }
+
+    /// It has come to this place, and goes on after a call, whose values it wants so.
+    #[inline(always)]
+    pub fn wait_at(&mut self, at: usize, wants: Wanted)
+        requires { at < usize.MAX }
+        ensures { self.new ≡ waiting (wanted_of wants) (record self.old { at = at }) }
+    {
+        self.at = at + 1;
+        self.wants = wants;
     }
 
     /// It goes on after a call, whose values it wants so.

@@ -16,6 +16,7 @@ mod slots;
 mod stack;
 mod state;
 mod stop;
+mod stretch;
 
 pub use machine::Machine;
 pub use stop::{GoError, NativeCall, Stop};

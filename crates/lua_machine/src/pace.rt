@@ -13,3 +13,10 @@ pub struct Reached {
     pub pace: Pace,
     pub op: Op,
 }
+
+/// Where a stretch of quick operations, calls and returns came to: the depth of the frame that runs, and its pace.
+#[derive(Clone, Copy)]
+pub struct Halt {
+    pub depth: usize,
+    pub pace: Pace,
+}

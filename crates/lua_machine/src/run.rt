@@ -1,4 +1,4 @@
-ghost use Rattle.std.specs.Prelude.{◌≡◌, ◌<◌, false, slice_get, IfOk, IfErr, IfSome, OnSome, Some};
+ghost use Rattle.std.specs.Prelude.{◌≡◌, ◌<◌, false, slice_get, IfOk, IfErr, OnSome};
 ghost use Rattle.lua_code.specs.Valid.{IsValid};
 ghost use Rattle.lua_steps.specs.Machine as steps;
 ghost use Rattle.lua_steps.specs.Calls.{given};
@@ -7,8 +7,6 @@ ghost use Rattle.lua_follow.specs.Follows.{NarrowAt};
 ghost use Rattle.lua_machine.specs.Runs.{Runs, StuckIf, SpentIf};
 ghost use Rattle.lua_machine.specs.Views.{says, stops};
 
-use crate::pace::Pace;
-use crate::quick::block_at;
 use crate::state::State;
 use crate::stop::{GoError, Stop, Went};
 use lua_code::{Function, Op};
@@ -52,35 +50,14 @@ impl State {
         }
     }
 
-    /// Quick operations, up to one that is not or that comes to a stop, which is answered. The frame's slots are there in every run of compiled code.
+    /// Quick operations, calls and returns, up to an operation that is not quick, or that comes to a stop.
     #[inline(always)]
-    fn hurry(&mut self, code: &[Function]) -> Option<Op>
+    fn hurry(&mut self, code: &[Function])
         requires { IsValid code.now }
-        ensures runs { Runs code.now self.old (steps.On self.new) }
-        ensures op { IfSome result (λ op. op_at code.now self.new.top.function self.new.top.at ≡ Some op) }
-        ensures place { IfSome result (λ op. self.new.top.at < usize.MAX) }
+        ensures { Runs code.now self.old (steps.On self.new) }
     {
-        let top = self.stack.top();
-        let function = top.function;
-        let base = top.base as usize;
-        let start = Pace {
-            at: top.at,
-            left: self.left,
-        };
-        let Some(routine) = code.get(function as usize) else {
-            return None;
-        };
-        let end = base + routine.shape().slots as usize;
-        if start.at >= routine.ops().len() || self.row.len() < end {
-            return None;
-        }
-        let own = top.cells.as_slice();
-        let ups = top.ups.as_slice();
         let row = self.row.as_mut_slice();
-        let heap = &mut self.heap;
-        let reached = block_at(code, function, routine, row, base, heap, own, ups, start);
-        self.settle(reached.pace);
-        Some(reached.op)
+        self.left = self.stack.hurry(code, row, &mut self.heap, self.left);
     }
 
     /// Runs to the next stop. The values go to the frame that waits for them.
@@ -93,10 +70,7 @@ impl State {
         law_measure_falls();
         self.receive(values)?;
         'operations: loop {
-            let reached = self.hurry(code);
-            if self.pass(code, reached) {
-                continue;
-            }
+            self.hurry(code);
             match self.step(code)? {
                 Went::On => {}
                 Went::Off(stop) => return Ok(stop),

@@ -1,11 +1,16 @@
-ghost use Rattle.std.specs.Prelude.{◌≡◌, [], ◌∷◌, ◌<◌, IfOk, OnOk, slice_get, option_copied};
+ghost use Rattle.std.specs.Prelude.{◌≡◌, [], ◌∷◌, IfOk, OnOk};
 ghost use Rattle.std.specs.Borrow.{sem};
+ghost use Rattle.lua_code.specs.Valid.{IsValid};
 ghost use Rattle.lua_machine.specs.Lends.{LendsTop};
-ghost use Rattle.lua_machine.specs.Stack.{plain, Left, Reentered};
-ghost use Rattle.lua_machine.specs.Wants.{wanted_of};
+ghost use Rattle.lua_machine.specs.Stack.{Left};
+ghost use Rattle.lua_machine.specs.Stretch.{Hurried};
 
-use crate::frame::{Frame, Wanted};
-use lua_heap::Closure;
+use crate::frame::Frame;
+use crate::pace::Pace;
+use crate::stretch::stretch;
+use lua_code::Function;
+use lua_heap::Heap;
+use lua_value::Value;
 use sk_types::NoMemory;
 use std::alloc::Global;
 use std::marker::Model;
@@ -69,17 +74,6 @@ impl CallStack {
         Ok(())
     }
 
-    /// The frame that waits for the one that runs.
-    #[inline(always)]
-    pub fn caller(&self) -> Option<&Frame>
-        ensures { option_copied result ≡ slice_get self.now.below 0 }
-    {
-        if self.depth == 0 {
-            return None;
-        }
-        Some(&self.frames[self.depth - 1])
-    }
-
     /// The frame that ran ends, and the one that waits for it goes on, where there is one.
     #[inline(always)]
     pub fn leave(&mut self) -> bool
@@ -92,23 +86,20 @@ impl CallStack {
         true
     }
 
-    /// A call of a closure begins in the dead frame after the one that runs, where there is one. The one that ran waits for its values.
+    /// Runs quick operations, calls and returns over this row and this heap, with so many ticks; answers how many are left.
     #[inline(always)]
-    pub fn reenter(&mut self, wants: Wanted, closure: &Closure, cells: u16, base: u32) -> bool
-        requires { self.old.top.at < usize.MAX }
-        ensures { Reentered result (wanted_of wants) (plain closure.now cells base) self.old self.new }
+    pub fn hurry(&mut self, code: &[Function], row: &mut [Value], heap: &mut Heap, left: u64) -> u64
+        requires { IsValid code.now }
+        ensures ran { Hurried code.now heap.old.closures self.old row.old heap.old.cells left self.new row.new heap.new.cells result }
+        ensures heap { heap.new ≡ record heap.old { cells = heap.new.cells } }
     {
-        let next = self.depth + 1;
-        if self.frames.len() <= next {
-            return false;
-        }
-        let dead = &mut self.frames[next];
-        let Ok(()) = dead.reopen(closure.function(), closure.cells(), cells, base) else {
-            return false;
-        };
-        let top = &mut self.frames[self.depth];
-        top.wait(wants);
-        self.depth = next;
-        true
+        let frames = self.frames.as_mut_slice();
+        let top = &frames[self.depth];
+        let start = Pace { at: top.at, left };
+        let halt = stretch(code, frames, self.depth, row, heap, start);
+        let top = &mut frames[halt.depth];
+        top.at = halt.pace.at;
+        self.depth = halt.depth;
+        halt.pace.left
     }
 }

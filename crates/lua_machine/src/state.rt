@@ -7,7 +7,6 @@ ghost use Rattle.lua_operators.specs.Answers.{told};
 ghost use Rattle.lua_follow.specs.Follows.{Narrow};
 ghost use Rattle.lua_machine.specs.Views.{says, IsMade};
 
-use crate::pace::Pace;
 use crate::stack::CallStack;
 use crate::stop::{Stop, Went};
 use lua_heap::{Heap, HeapFault};
@@ -54,6 +53,16 @@ pub fn value_at(values: &[Value], place: usize) -> Value
     match values.get(place) {
         Some(value) => *value,
         None => Value::Nil,
+    }
+}
+
+/// A value goes to a place of a list, if it is there.
+#[inline(always)]
+pub fn put_at(values: &mut [Value], place: usize, value: Value)
+    ensures { values.new ≡ slice_set values.old place value }
+{
+    if place < values.len() {
+        values[place] = value;
     }
 }
 
@@ -130,16 +139,6 @@ impl State {
     {
         let top = self.stack.top();
         top.base as usize
-    }
-
-    /// The place and the ticks that a run came to.
-    #[inline(always)]
-    pub fn settle(&mut self, pace: Pace)
-        ensures { self.new ≡ record self.old { top = record self.old.top { at = pace.at }; left = pace.left } }
-    {
-        let top = self.stack.top_mut();
-        top.at = pace.at;
-        self.left = pace.left;
     }
 
     pub fn slot(&self, i: u16) -> Value

@@ -1,0 +1,89 @@
+//! Quick operations, and calls and returns that take nothing new, with the frames and the row in hand.
+
+ghost use Rattle.std.specs.Prelude.{◌≡◌, ◌<◌, length, IfSome, IfNone, Some};
+ghost use Rattle.lua_code.specs.Valid.{IsValid};
+ghost use Rattle.lua_steps.specs.Exec.{op_at};
+ghost use Rattle.lua_machine.specs.Stack.{stacked};
+ghost use Rattle.lua_machine.specs.Stretch.{Stretched};
+
+use crate::frame::Frame;
+use crate::pace::{Halt, Pace, Reached};
+use crate::pass::{function_at, pass};
+use crate::quick::block_at;
+use lua_code::Function;
+use lua_heap::Heap;
+use lua_steps::law_measure_falls;
+use lua_value::Value;
+
+/// Quick operations of the frame at a depth, if its slots are there, as they are in every run of compiled code.
+#[inline(always)]
+fn hurry(
+    code: &[Function],
+    frames: &[Frame],
+    depth: usize,
+    row: &mut [Value],
+    heap: &mut Heap,
+    start: Pace,
+) -> Option<Reached>
+    requires valid { IsValid code.now }
+    requires depth { depth < length frames.now }
+    ensures ran { IfSome result (λ r. Stretched code.now heap.old.closures (stacked frames.now depth) row.old heap.old.cells start (stacked frames.now depth) row.new heap.new.cells r.pace) }
+    ensures op { IfSome result (λ r. op_at code.now (stacked frames.now depth).top.function r.pace.at ≡ Some r.op) }
+    ensures place { IfSome result (λ r. r.pace.at < usize.MAX) }
+    ensures heap { heap.new ≡ record heap.old { cells = heap.new.cells } }
+    ensures none { IfNone result ((row.new ≡ row.old) × (heap.new ≡ heap.old)) }
+{
+    let top = &frames[depth];
+    let Some(routine) = function_at(code, top.function) else {
+        return None;
+    };
+    let base = top.base as usize;
+    let end = base + routine.shape().slots as usize;
+    if start.at >= routine.ops().len() || row.len() < end {
+        return None;
+    }
+    let own = top.cells.as_slice();
+    let ups = top.ups.as_slice();
+    Some(block_at(
+        code,
+        top.function,
+        routine,
+        row,
+        base,
+        heap,
+        own,
+        ups,
+        start,
+    ))
+}
+
+/// Runs the frame at a depth, and those that it calls and returns to, up to an operation that is not quick, or that comes to a stop.
+pub fn stretch(
+    code: &[Function],
+    frames: &mut [Frame],
+    depth: usize,
+    row: &mut [Value],
+    heap: &mut Heap,
+    start: Pace,
+) -> Halt
+    requires valid { IsValid code.now }
+    requires depth { depth < length frames.old }
+    ensures ran { Stretched code.now heap.old.closures (stacked frames.old depth) row.old heap.old.cells start (stacked frames.new result.depth) row.new heap.new.cells result.pace }
+    ensures within { result.depth < length frames.new }
+    ensures heap { heap.new ≡ record heap.old { cells = heap.new.cells } }
+{
+    law_measure_falls();
+    let mut here = Halt { depth, pace: start };
+    'frames: loop {
+        let Some(reached) = hurry(code, frames, here.depth, row, heap, here.pace) else {
+            return here;
+        };
+        let Some(next) = pass(code, frames, here.depth, row, heap, reached) else {
+            return Halt {
+                depth: here.depth,
+                pace: reached.pace,
+            };
+        };
+        here = next;
+    }
+}
