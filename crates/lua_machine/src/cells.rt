@@ -29,6 +29,22 @@ pub fn cell_of(cells: &[u64], i: u16) -> u64
     }
 }
 
+/// One of a frame's own cells.
+#[inline(always)]
+pub fn own_of(frame: &Frame, i: u16) -> u64
+    ensures { result ≡ cell_of frame.now.cells i }
+{
+    cell_of(frame.cells.as_slice(), i)
+}
+
+/// One of the cells of a frame's closure.
+#[inline(always)]
+pub fn up_of(frame: &Frame, i: u16) -> u64
+    ensures { result ≡ cell_of frame.now.ups i }
+{
+    cell_of(frame.ups.as_slice(), i)
+}
+
 /// The value of a cell, and nil where the heap gave none.
 #[inline(always)]
 pub fn cell_value(heap: &Heap, cell: u64) -> Value

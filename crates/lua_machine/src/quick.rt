@@ -8,7 +8,8 @@ ghost use Rattle.lua_code.specs.declared.op.Op.TheVariants as op;
 ghost use Rattle.lua_code.specs.Valid.{IsValid};
 ghost use Rattle.lua_machine.specs.Quick.{Quick, OnSlots, Within, Near, IsGiven, IsOfSlots, IsOfInt, IsTestOfSlots, IsTestOfInt, Turns, Ran, Led};
 
-use crate::cells::{cell_of, cell_value, put_in_cell};
+use crate::cells::{cell_value, own_of, put_in_cell, up_of};
+use crate::frame::Frame;
 use crate::pace::{Pace, Reached};
 use crate::slots::{
     after, chooses, computed, gives, long, pays, put_turn, short, slot, slot_after, tiny,
@@ -536,37 +537,36 @@ fn quick(
     op: &Op,
     row: &mut [Value],
     heap: &mut Heap,
-    own: &[u64],
-    ups: &[u64],
+    frame: &Frame,
     pace: Pace,
     _count: usize,
 ) -> Option<Pace>
     requires within { Within (length row.old) op.now }
     requires near { Near _count pace.at op.now }
     requires place { pace.at < _count }
-    ensures ok { IfSome result (λ p. Quick op.now own.now ups.now row.old heap.old.cells pace row.new heap.new.cells p) }
+    ensures ok { IfSome result (λ p. Quick op.now frame.now.cells frame.now.ups row.old heap.old.cells pace row.new heap.new.cells p) }
     ensures place { IfSome result (λ p. p.at < _count) }
     ensures none { IfNone result ((row.new ≡ row.old) × (heap.new ≡ heap.old)) }
     ensures heap { heap.new ≡ record heap.old { cells = heap.new.cells } }
 {
     match *op {
         Op::GetCell { to, cell } => {
-            let value = cell_value(heap, cell_of(own, cell));
+            let value = cell_value(heap, own_of(frame, cell));
             Some(gives(row, to, value, pace))
         }
         Op::GetUp { to, up } => {
-            let value = cell_value(heap, cell_of(ups, up));
+            let value = cell_value(heap, up_of(frame, up));
             Some(gives(row, to, value, pace))
         }
         Op::SetCell { cell, from } => {
-            put_in_cell(heap, cell_of(own, cell), slot(row, from));
+            put_in_cell(heap, own_of(frame, cell), slot(row, from));
             Some(Pace {
                 at: pace.at + 1,
                 left: pace.left,
             })
         }
         Op::SetUp { up, from } => {
-            put_in_cell(heap, cell_of(ups, up), slot(row, from));
+            put_in_cell(heap, up_of(frame, up), slot(row, from));
             Some(Pace {
                 at: pace.at + 1,
                 left: pace.left,
@@ -593,15 +593,14 @@ pub fn block(
     routine: &Function,
     row: &mut [Value],
     heap: &mut Heap,
-    own: &[u64],
-    ups: &[u64],
+    frame: &Frame,
     start: Pace,
 ) -> Reached
     requires valid { IsValid code.now }
     requires routine { slice_get code.now _function ≡ Some routine.now }
     requires slots { routine.now.shape.slots ≤ length row.old }
     requires place { start.at < length routine.now.ops }
-    ensures ran { Ran code.now _function own.now ups.now row.old heap.old.cells start row.new heap.new.cells result.pace }
+    ensures ran { Ran code.now _function frame.now.cells frame.now.ups row.old heap.old.cells start row.new heap.new.cells result.pace }
     ensures op { slice_get routine.now.ops result.pace.at ≡ Some result.op }
     ensures place { result.pace.at < usize.MAX }
     ensures heap { heap.new ≡ record heap.old { cells = heap.new.cells } }
@@ -611,7 +610,7 @@ pub fn block(
     let mut pace = start;
     'quick: loop {
         let op = fetch(ops, pace.at);
-        let Some(next) = quick(op, row, heap, own, ups, pace, ops.len()) else {
+        let Some(next) = quick(op, row, heap, frame, pace, ops.len()) else {
             return Reached { pace, op: *op };
         };
         pace = next;
@@ -627,19 +626,18 @@ pub fn block_at(
     row: &mut [Value],
     base: usize,
     heap: &mut Heap,
-    own: &[u64],
-    ups: &[u64],
+    frame: &Frame,
     start: Pace,
 ) -> Reached
     requires valid { IsValid code.now }
     requires routine { slice_get code.now _function ≡ Some routine.now }
     requires slots { base + routine.now.shape.slots ≤ length row.old }
     requires place { start.at < length routine.now.ops }
-    ensures led { Led code.now _function own.now ups.now base row.old heap.old.cells start row.new heap.new.cells result.pace }
+    ensures led { Led code.now _function frame.now.cells frame.now.ups base row.old heap.old.cells start row.new heap.new.cells result.pace }
     ensures op { slice_get routine.now.ops result.pace.at ≡ Some result.op }
     ensures place { result.pace.at < usize.MAX }
     ensures heap { heap.new ≡ record heap.old { cells = heap.new.cells } }
 {
     let (_before, slots) = row.split_at_mut(base);
-    block(code, _function, routine, slots, heap, own, ups, start)
+    block(code, _function, routine, slots, heap, frame, start)
 }

@@ -42,8 +42,6 @@ fn hurry(
     if start.at >= routine.ops().len() || row.len() < end {
         return None;
     }
-    let own = top.cells.as_slice();
-    let ups = top.ups.as_slice();
     Some(block_at(
         code,
         top.function,
@@ -51,8 +49,7 @@ fn hurry(
         row,
         base,
         heap,
-        own,
-        ups,
+        top,
         start,
     ))
 }

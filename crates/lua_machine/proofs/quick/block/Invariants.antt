@@ -8,9 +8,9 @@ abbrev pub invariant-quick : goal.invariant-quick
 invariant-quick l = record {
   ops : l.ops ≡ l.routine.ops;
   place : l.pace.at < length l.ops;
-  ran : Ran l.code l._function l.own l.ups l.fn.row l.fn.heap.cells l.fn.start l.row l.heap.cells l.pace;
+  ran : Ran l.code l._function l.frame.cells l.frame.ups l.fn.row l.fn.heap.cells l.fn.start l.row l.heap.cells l.pace;
   heap : l.heap ≡ record l.fn.heap { cells = l.heap.cells };
 }
 
 abbrev pub decreases-quick : goal.decreases-quick
-decreases-quick l = rank (total l.code) (in_hand (around l._function l.own l.ups [] bare) l.row l.heap.cells l.pace)
+decreases-quick l = rank (total l.code) (in_hand (around l._function l.frame.cells l.frame.ups [] bare) l.row l.heap.cells l.pace)

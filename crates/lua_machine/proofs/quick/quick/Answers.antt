@@ -16,10 +16,10 @@ returns-in-GetCell-clause-ok c =
     let cells = c.args.heap.now.cells in
     record {
       is = λ code f before m.
-          let g = around f c.args.own.now c.args.ups.now before m in
+          let g = around f c.args.frame.now.cells c.args.frame.now.ups before m in
           let x = in_hand g c.args.row.now cells c.args.pace in
           ap (λ (o : Op). perform code o x) c.in-GetCell.is
-          ∙ ap (λ (v : Value). gives c.in-GetCell.to v x) (ap (λ (k : ℕ). value_at cells k) (sym c.cell_of.ensures) ∙ sym c.cell_value-value.ensures)
+          ∙ ap (λ (v : Value). gives c.in-GetCell.to v x) (ap (λ (k : ℕ). value_at cells k) (sym c.own_of.ensures) ∙ sym c.cell_value-value.ensures)
           ∙ c.gives.ensures.gives.is g cells;
       narrow = λ m. subst (λ (o : Op). NarrowAt (Some o) m) (sym c.in-GetCell.is) tt;
     }
@@ -29,10 +29,10 @@ returns-in-GetUp-clause-ok c =
     let cells = c.args.heap.now.cells in
     record {
       is = λ code f before m.
-          let g = around f c.args.own.now c.args.ups.now before m in
+          let g = around f c.args.frame.now.cells c.args.frame.now.ups before m in
           let x = in_hand g c.args.row.now cells c.args.pace in
           ap (λ (o : Op). perform code o x) c.in-GetUp.is
-          ∙ ap (λ (v : Value). gives c.in-GetUp.to v x) (ap (λ (k : ℕ). value_at cells k) (sym c.cell_of-in-GetUp.ensures) ∙ sym c.cell_value-value-in-GetUp.ensures)
+          ∙ ap (λ (v : Value). gives c.in-GetUp.to v x) (ap (λ (k : ℕ). value_at cells k) (sym c.up_of.ensures) ∙ sym c.cell_value-value-in-GetUp.ensures)
           ∙ c.gives-in-GetUp.ensures.gives.is g cells;
       narrow = λ m. subst (λ (o : Op). NarrowAt (Some o) m) (sym c.in-GetUp.is) tt;
     }
@@ -43,9 +43,9 @@ returns-in-SetCell-clause-ok c =
     let cells = c.args.heap.now.cells in
     record {
       is = λ code f before m.
-          let x = in_hand (around f c.args.own.now c.args.ups.now before m) row cells c.args.pace in
+          let x = in_hand (around f c.args.frame.now.cells c.args.frame.now.ups before m) row cells c.args.pace in
           ap (λ (o : Op). perform code o x) c.in-SetCell.is
-          ∙ ap₂ (λ (k : ℕ) (v : Value). next (record x { cells = slice_set cells k v })) (sym c.cell_of-in-SetCell.ensures) (value_after before row c.in-SetCell.from ∙ sym c.slot.ensures)
+          ∙ ap₂ (λ (k : ℕ) (v : Value). next (record x { cells = slice_set cells k v })) (sym c.own_of-in-SetCell.ensures) (value_after before row c.in-SetCell.from ∙ sym c.slot.ensures)
           ∙ ap (λ (cs : List Value). next (record x { cells = cs })) (sym (ap (λ (h : Contents). h.cells) c.put_in_cell.ensures));
       narrow = λ m. subst (λ (o : Op). NarrowAt (Some o) m) (sym c.in-SetCell.is) tt;
     }
@@ -56,9 +56,9 @@ returns-in-SetUp-clause-ok c =
     let cells = c.args.heap.now.cells in
     record {
       is = λ code f before m.
-          let x = in_hand (around f c.args.own.now c.args.ups.now before m) row cells c.args.pace in
+          let x = in_hand (around f c.args.frame.now.cells c.args.frame.now.ups before m) row cells c.args.pace in
           ap (λ (o : Op). perform code o x) c.in-SetUp.is
-          ∙ ap₂ (λ (k : ℕ) (v : Value). next (record x { cells = slice_set cells k v })) (sym c.cell_of-in-SetUp.ensures) (value_after before row c.in-SetUp.from ∙ sym c.slot-in-SetUp.ensures)
+          ∙ ap₂ (λ (k : ℕ) (v : Value). next (record x { cells = slice_set cells k v })) (sym c.up_of-in-SetUp.ensures) (value_after before row c.in-SetUp.from ∙ sym c.slot-in-SetUp.ensures)
           ∙ ap (λ (cs : List Value). next (record x { cells = cs })) (sym (ap (λ (h : Contents). h.cells) c.put_in_cell-in-SetUp.ensures));
       narrow = λ m. subst (λ (o : Op). NarrowAt (Some o) m) (sym c.in-SetUp.is) tt;
     }
@@ -67,7 +67,7 @@ pub returns-in_default : goal.returns-in_default
 returns-in_default c =
     let cells = c.args.heap.now.cells in
     record {
-      ok = some_map c.on_slots.result _ _ (λ p h. record { is = λ code f before m. h.is code (around f c.args.own.now c.args.ups.now before m) cells; narrow = h.narrow }) c.on_slots.ensures.ok;
+      ok = some_map c.on_slots.result _ _ (λ p h. record { is = λ code f before m. h.is code (around f c.args.frame.now.cells c.args.frame.now.ups before m) cells; narrow = h.narrow }) c.on_slots.ensures.ok;
       place = c.on_slots.ensures.place;
       none = none_map c.on_slots.result _ _ (λ same. (same, refl)) c.on_slots.ensures.none;
       heap = refl;

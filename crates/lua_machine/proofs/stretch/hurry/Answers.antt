@@ -6,9 +6,10 @@ use Rattle.lua_machine.proofs.stretch.hurry.Goals as goal
 
 pub returns-clause-ran : goal.returns-clause-ran
 returns-clause-ran c =
-    let top = c.top.view_is ∙ c.index-frames-depth.is ∙ at_any c.args.depth c.args.frames.now _ c.requires.depth in
+    let kept = c.index-frames-depth.is ∙ at_any c.args.depth c.args.frames.now _ c.requires.depth in
+    let top = c.top.view_is ∙ kept in
     stretched_led _ _ _ _ _ _ _ _ _ _ _ _ _ c.block_at.ensures.led
     (ap (λ (x : Frame). x.function) top)
     (ap (λ (x : Frame). x.base) top)
-    (c.as_slice-own.ensures.value ∙ ap (λ (x : Frame). x.cells) top)
-    (c.as_slice-ups.ensures.value ∙ ap (λ (x : Frame). x.ups) top)
+    (ap (λ (x : Frame). x.cells) kept)
+    (ap (λ (x : Frame). x.ups) kept)
