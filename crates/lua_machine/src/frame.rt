@@ -1,4 +1,4 @@
-ghost use Rattle.std.specs.Prelude.{◌≡◌, [], ◌∷◌, ◌<◌, length, OnOk, replicate};
+ghost use Rattle.std.specs.Prelude.{◌≡◌, [], ◌∷◌, ◌<◌, OnOk, replicate};
 ghost use Rattle.lua_steps.specs.Moves.{at_next};
 ghost use Rattle.lua_steps.specs.Calls.{waiting};
 ghost use Rattle.lua_machine.specs.Wants.{wanted_of};
@@ -67,24 +67,13 @@ fn forget_cells(kept: &mut Vec<u64>, count: u16) -> Result<(), NoMemory>
     Ok(())
 }
 
-/// These cells, in the place of as many others.
-#[inline(always)]
-fn copy_over(kept: &mut [u64], cells: &[u64])
-    requires { length kept.old ≡ length cells.now }
-    ensures { kept.new ≡ cells.now }
-{
-    'cells: for i in 0..cells.len() {
-        kept[i] = cells[i];
-    }
-}
-
-/// These cells, in place of those that were kept.
+/// These cells, in place of those that were kept. One in the place of one, as most closures have it, makes no call.
 #[inline(always)]
 fn take_over(kept: &mut Vec<u64>, cells: &[u64]) -> Result<(), NoMemory>
     ensures { OnOk result (kept.new.items ≡ cells.now) }
 {
-    if kept.len() == cells.len() {
-        copy_over(kept.as_mut_slice(), cells);
+    if kept.len() == 1 && cells.len() == 1 {
+        kept[0] = cells[0];
         return Ok(());
     }
     kept.clear();
