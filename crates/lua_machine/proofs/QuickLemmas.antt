@@ -4,6 +4,7 @@ use Rattle.std.specs.Prelude.{slice_set}
 use Rattle.lua_value.specs.declared.value.Value.{Value}
 use Rattle.lua_value.specs.Lists.{value_at}
 use Rattle.lua_model.specs.Heap.{empty}
+use Rattle.lua_heap.specs.Contents.{Contents}
 use Rattle.lua_code.specs.declared.op.Op.{Op}
 use Rattle.lua_code.specs.declared.op.Op.TheVariants as op
 use Rattle.lua_code.specs.Routine.{Routine}
@@ -15,7 +16,7 @@ use Rattle.lua_steps.specs.Measure.{total, rank, MeasureFalls}
 use Rattle.lua_follow.specs.Follows.{NarrowAt}
 use Rattle.lua_machine.specs.declared.pace.Pace.{Pace}
 use Rattle.lua_machine.specs.Runs.{Runs}
-use Rattle.lua_machine.specs.Quick.{around, in_hand, placed, Quick, Ran, Led, Within, Near}
+use Rattle.lua_machine.specs.Quick.{around, in_hand, placed, Quick, OnSlots, Ran, Led, Within, Near}
 use Rattle.lua_machine.proofs.RunLemmas.{runs_more, runs_none}
 
 -- ---- slots behind others
@@ -182,6 +183,19 @@ some_map (Some p) P Q f h = f p h
 pub none_map : (o : Option Pace) (P Q : Type 0) → (P → Q) → IfNone o P → IfNone o Q
 none_map None P Q f h = f h
 none_map (Some p) P Q f h = tt
+
+pub none_more : (o : Option Pace) (row after : List Value) (h : Contents) → IfNone o (after ≡ row) → IfNone o ((after ≡ row) × (h ≡ h))
+none_more None row after h e = (e, refl)
+none_more (Some p) row after h e = tt
+
+-- ---- an operation that touches no cell
+pub lifts : (o : Op) (own ups : List ℕ) (row after cells : List Value) (pace p : Pace) → OnSlots o row pace after p → Quick o own ups row cells pace after cells p
+lifts o own ups row after cells pace p h = record { is = λ code f before m. h.is code (around f own ups before m) cells; narrow = h.narrow }
+
+pub lifts_some : (o : Op) (own ups : List ℕ) (row after cells : List Value) (pace : Pace) (r : Option Pace)
+    → IfSome r (λ p. OnSlots o row pace after p) → IfSome r (λ p. Quick o own ups row cells pace after cells p)
+lifts_some o own ups row after cells pace None h = tt
+lifts_some o own ups row after cells pace (Some p) h = lifts o own ups row after cells pace p h
 
 -- ---- runs
 -- a machine that has nothing but what is in hand

@@ -1,5 +1,5 @@
 -- Operations that touch slots, cells, the place and ticks alone, as a run of them has these in hand. They are this project's own.
-use Rattle.std.specs.Prelude.{◌≡◌, ℕ, ◌+◌, ◌<◌, ◌≤◌, Bool, ℤ, List, [], ◌∷◌, ◌++◌, length, Some}
+use Rattle.std.specs.Prelude.{◌≡◌, ℕ, ◌+◌, ◌<◌, Bool, ℤ, List, ◌++◌, length, Some}
 use Rattle.lua_value.specs.declared.value.Value.{Value}
 use Rattle.lua_value.specs.declared.value.Value.TheVariants as value
 use Rattle.lua_model.specs.declared.operator.Binary.{Binary}
@@ -9,9 +9,9 @@ use Rattle.lua_model.specs.Texts.{Texts}
 use Rattle.lua_code.specs.declared.op.Op.{Op}
 use Rattle.lua_code.specs.declared.op.Op.TheVariants as op
 use Rattle.lua_steps.specs.Machine.{Code, Machine, Went, On}
-use Rattle.lua_steps.specs.Moves.{next, jump, slot, written, gives, paid, answered}
+use Rattle.lua_steps.specs.Moves.{slot, gives, paid, answered}
 use Rattle.lua_steps.specs.Exec.{line, chosen, unless, perform}
-use Rattle.lua_steps.specs.Loops.{counted, next_turn}
+use Rattle.lua_steps.specs.Loops.{next_turn}
 use Rattle.lua_follow.specs.Follows.{NarrowAt}
 use Rattle.lua_machine.specs.declared.pace.Pace.{Pace}
 use Rattle.lua_machine.specs.Runs.{Runs}

@@ -6,9 +6,9 @@ ghost use Rattle.lua_value.specs.Lists.{value_at};
 ghost use Rattle.lua_model.specs.declared.operator.Binary.TheVariants as binary_op;
 ghost use Rattle.lua_code.specs.declared.op.Op.TheVariants as op;
 ghost use Rattle.lua_code.specs.Valid.{IsValid};
-ghost use Rattle.lua_machine.specs.Quick.{Quick, OnSlots, Within, Near, IsGiven, IsOfSlots, IsOfInt, IsTestOfSlots, IsTestOfInt, Turns, Ran, Led};
+ghost use Rattle.lua_machine.specs.Quick.{Quick, OnSlots, Within, Near, IsGiven, IsOfSlots, IsOfInt, IsTestOfSlots, IsTestOfInt, Turns, Gives, Ran, Led};
 
-use crate::cells::{cell_value, own_of, put_in_cell, up_of};
+use crate::cells::{own_of, put_in_cell, up_of};
 use crate::frame::Frame;
 use crate::pace::{Pace, Reached};
 use crate::slots::{
@@ -306,15 +306,40 @@ fn constant(_op: Op, row: &mut [Value], to: u16, n: i32, pace: Pace) -> Pace
     given(_op, row, to, value, pace)
 }
 
-/// An operation that touches slots alone, if it is quick and comes to no stop. There are so many operations.
+/// The value of a cell goes to a slot, if the heap gave the cell.
 #[inline(always)]
-fn on_slots(op: &Op, row: &mut [Value], pace: Pace, _count: usize) -> Option<Pace>
+fn reads(row: &mut [Value], heap: &Heap, to: u16, cell: u64, pace: Pace) -> Option<Pace>
+    requires slot { to < length row.old }
+    requires place { pace.at < usize.MAX }
+    ensures ok { IfSome result (λ p. Gives row.old pace to (value_at heap.now.cells cell) row.new p) }
+    ensures place { IfSome result (λ p. p.at ≡ pace.at + 1) }
+    ensures none { IfNone result (row.new ≡ row.old) }
+{
+    if cell >= heap.cell_count() as u64 {
+        return None;
+    }
+    let value = heap.cell_get(cell);
+    Some(gives(row, to, value, pace))
+}
+
+/// One operation, if it is quick and comes to no stop. Of the heap it touches the cells alone. There are so many operations.
+#[tactic(auto, using(crate::proofs::QuickLemmas::lifts, crate::proofs::QuickLemmas::lifts_some, crate::proofs::QuickLemmas::none_more))]
+#[inline(always)]
+fn quick(
+    op: &Op,
+    row: &mut [Value],
+    heap: &mut Heap,
+    frame: &Frame,
+    pace: Pace,
+    _count: usize,
+) -> Option<Pace>
     requires within { Within (length row.old) op.now }
     requires near { Near _count pace.at op.now }
     requires place { pace.at < _count }
-    ensures ok { IfSome result (λ p. OnSlots op.now row.old pace row.new p) }
+    ensures ok { IfSome result (λ p. Quick op.now frame.now.cells frame.now.ups row.old heap.old.cells pace row.new heap.new.cells p) }
     ensures place { IfSome result (λ p. p.at < _count) }
-    ensures none { IfNone result (row.new ≡ row.old) }
+    ensures none { IfNone result ((row.new ≡ row.old) × (heap.new ≡ heap.old)) }
+    ensures heap { heap.new ≡ record heap.old { cells = heap.new.cells } }
 {
     match *op {
         Op::Nil { to } => Some(given(*op, row, to, Value::Nil, pace)),
@@ -527,37 +552,8 @@ fn on_slots(op: &Op, row: &mut [Value], pace: Pace, _count: usize) -> Option<Pac
             _count,
         ),
         Op::ForLoop { pay, base, at } => next_turn(row, pay, base, at, pace, _count),
-        _ => None,
-    }
-}
-
-/// One operation, if it is quick and comes to no stop. Of the heap it touches the cells alone.
-#[inline(always)]
-fn quick(
-    op: &Op,
-    row: &mut [Value],
-    heap: &mut Heap,
-    frame: &Frame,
-    pace: Pace,
-    _count: usize,
-) -> Option<Pace>
-    requires within { Within (length row.old) op.now }
-    requires near { Near _count pace.at op.now }
-    requires place { pace.at < _count }
-    ensures ok { IfSome result (λ p. Quick op.now frame.now.cells frame.now.ups row.old heap.old.cells pace row.new heap.new.cells p) }
-    ensures place { IfSome result (λ p. p.at < _count) }
-    ensures none { IfNone result ((row.new ≡ row.old) × (heap.new ≡ heap.old)) }
-    ensures heap { heap.new ≡ record heap.old { cells = heap.new.cells } }
-{
-    match *op {
-        Op::GetCell { to, cell } => {
-            let value = cell_value(heap, own_of(frame, cell));
-            Some(gives(row, to, value, pace))
-        }
-        Op::GetUp { to, up } => {
-            let value = cell_value(heap, up_of(frame, up));
-            Some(gives(row, to, value, pace))
-        }
+        Op::GetCell { to, cell } => reads(row, heap, to, own_of(frame, cell), pace),
+        Op::GetUp { to, up } => reads(row, heap, to, up_of(frame, up), pace),
         Op::SetCell { cell, from } => {
             put_in_cell(heap, own_of(frame, cell), slot(row, from));
             Some(Pace {
@@ -572,7 +568,7 @@ fn quick(
                 left: pace.left,
             })
         }
-        _ => on_slots(op, row, pace, _count),
+        _ => None,
     }
 }
 

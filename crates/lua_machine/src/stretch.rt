@@ -42,16 +42,7 @@ fn hurry(
     if start.at >= routine.ops().len() || row.len() < end {
         return None;
     }
-    Some(block_at(
-        code,
-        top.function,
-        routine,
-        row,
-        base,
-        heap,
-        top,
-        start,
-    ))
+    Some(block_at(code, top.function, routine, row, base, heap, top, start))
 }
 
 /// Runs the frame at a depth, and those that it calls and returns to, up to an operation that is not quick, or that comes to a stop.

@@ -1,4 +1,4 @@
-use Rattle.std.proofs.Common.{◌≡◌, ◌≤◌, List, length, slice_get, sym, ap, ◌∙◌, subst, arith}
+use Rattle.std.proofs.Common.{◌≤◌, List, length, slice_get, sym, ap, ◌∙◌, subst, arith}
 use Rattle.lua_heap.specs.Contents.{Contents}
 use Rattle.lua_code.specs.declared.op.Op.{Op}
 use Rattle.lua_machine.specs.Quick.{Near}

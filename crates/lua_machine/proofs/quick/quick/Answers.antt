@@ -1,4 +1,4 @@
-use Rattle.std.proofs.Common.{ℕ, Some, refl, sym, ap, ap₂, ◌∙◌, subst}
+use Rattle.std.proofs.Common.{ℕ, Some, sym, ap, ap₂, ◌∙◌, subst}
 use Rattle.std.specs.Prelude.{slice_set, List}
 use Rattle.lua_value.specs.declared.value.Value.{Value}
 use Rattle.lua_value.specs.Lists.{value_at}
@@ -8,34 +8,34 @@ use Rattle.lua_steps.specs.Moves.{next, gives}
 use Rattle.lua_steps.specs.Exec.{perform}
 use Rattle.lua_follow.specs.Follows.{NarrowAt}
 use Rattle.lua_machine.specs.Quick.{around, in_hand}
-use Rattle.lua_machine.proofs.QuickLemmas.{value_after, some_map, none_map}
+use Rattle.lua_machine.proofs.QuickLemmas.{value_after, some_map}
 use Rattle.lua_machine.proofs.quick.quick.Goals as goal
 
 pub returns-in-GetCell-clause-ok : goal.returns-in-GetCell-clause-ok
 returns-in-GetCell-clause-ok c =
     let cells = c.args.heap.now.cells in
-    record {
+    some_map c.reads.result _ _ (λ p h. record {
       is = λ code f before m.
           let g = around f c.args.frame.now.cells c.args.frame.now.ups before m in
           let x = in_hand g c.args.row.now cells c.args.pace in
           ap (λ (o : Op). perform code o x) c.in-GetCell.is
-          ∙ ap (λ (v : Value). gives c.in-GetCell.to v x) (ap (λ (k : ℕ). value_at cells k) (sym c.own_of.ensures) ∙ sym c.cell_value-value.ensures)
-          ∙ c.gives.ensures.gives.is g cells;
+          ∙ ap (λ (k : ℕ). gives c.in-GetCell.to (value_at cells k) x) (sym c.own_of.ensures)
+          ∙ h.is g cells;
       narrow = λ m. subst (λ (o : Op). NarrowAt (Some o) m) (sym c.in-GetCell.is) tt;
-    }
+    }) c.reads.ensures.ok
 
 pub returns-in-GetUp-clause-ok : goal.returns-in-GetUp-clause-ok
 returns-in-GetUp-clause-ok c =
     let cells = c.args.heap.now.cells in
-    record {
+    some_map c.reads-in-GetUp.result _ _ (λ p h. record {
       is = λ code f before m.
           let g = around f c.args.frame.now.cells c.args.frame.now.ups before m in
           let x = in_hand g c.args.row.now cells c.args.pace in
           ap (λ (o : Op). perform code o x) c.in-GetUp.is
-          ∙ ap (λ (v : Value). gives c.in-GetUp.to v x) (ap (λ (k : ℕ). value_at cells k) (sym c.up_of.ensures) ∙ sym c.cell_value-value-in-GetUp.ensures)
-          ∙ c.gives-in-GetUp.ensures.gives.is g cells;
+          ∙ ap (λ (k : ℕ). gives c.in-GetUp.to (value_at cells k) x) (sym c.up_of.ensures)
+          ∙ h.is g cells;
       narrow = λ m. subst (λ (o : Op). NarrowAt (Some o) m) (sym c.in-GetUp.is) tt;
-    }
+    }) c.reads-in-GetUp.ensures.ok
 
 pub returns-in-SetCell-clause-ok : goal.returns-in-SetCell-clause-ok
 returns-in-SetCell-clause-ok c =
@@ -61,14 +61,4 @@ returns-in-SetUp-clause-ok c =
           ∙ ap₂ (λ (k : ℕ) (v : Value). next (record x { cells = slice_set cells k v })) (sym c.up_of-in-SetUp.ensures) (value_after before row c.in-SetUp.from ∙ sym c.slot-in-SetUp.ensures)
           ∙ ap (λ (cs : List Value). next (record x { cells = cs })) (sym (ap (λ (h : Contents). h.cells) c.put_in_cell-in-SetUp.ensures));
       narrow = λ m. subst (λ (o : Op). NarrowAt (Some o) m) (sym c.in-SetUp.is) tt;
-    }
-
-pub returns-in_default : goal.returns-in_default
-returns-in_default c =
-    let cells = c.args.heap.now.cells in
-    record {
-      ok = some_map c.on_slots.result _ _ (λ p h. record { is = λ code f before m. h.is code (around f c.args.frame.now.cells c.args.frame.now.ups before m) cells; narrow = h.narrow }) c.on_slots.ensures.ok;
-      place = c.on_slots.ensures.place;
-      none = none_map c.on_slots.result _ _ (λ same. (same, refl)) c.on_slots.ensures.none;
-      heap = refl;
     }
