@@ -1,5 +1,6 @@
 ghost use Rattle.std.specs.Prelude.{◌≡◌, [], ◌∷◌, ◌<◌, IfOk, OnOk, slice_get, option_copied};
 ghost use Rattle.std.specs.Borrow.{sem};
+ghost use Rattle.lua_steps.specs.Calls.{waiting};
 ghost use Rattle.lua_machine.specs.Lends.{LendsTop};
 ghost use Rattle.lua_machine.specs.Stack.{plain, Left, Reentered};
 ghost use Rattle.lua_machine.specs.Wants.{wanted_of};
@@ -110,5 +111,26 @@ impl CallStack {
         top.wait(wants);
         self.depth = next;
         true
+    }
+    /// A call of a closure begins, in a dead frame where there is one, and else in a new one. The frame that ran waits for its values.
+    pub fn begin(
+        &mut self,
+        alloc: Global,
+        wants: Wanted,
+        closure: &Closure,
+        cells: u16,
+        base: u32,
+    ) -> Result<(), NoMemory>
+        requires { self.old.top.at < usize.MAX }
+        ensures { OnOk result (self.new ≡ record { top = plain closure.now cells base; below = waiting (wanted_of wants) self.old.top ∷ self.old.below }) }
+    {
+        if self.reenter(wants, closure, cells, base) {
+            return Ok(());
+        }
+        let frame = Frame::open(alloc, closure.function(), closure.cells(), cells, base)?;
+        let top = self.top_mut();
+        top.wait(wants);
+        self.enter(frame)?;
+        Ok(())
     }
 }
