@@ -135,6 +135,7 @@ impl Frame {
         self.wants = Wanted::OnTop;
         Ok(())
     }
+
     /// A new frame for such a call.
     pub fn open(
         alloc: Global,

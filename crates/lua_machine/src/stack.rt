@@ -112,6 +112,7 @@ impl CallStack {
         self.depth = next;
         true
     }
+
     /// A call of a closure begins, in a dead frame where there is one, and else in a new one. The frame that ran waits for its values.
     pub fn begin(
         &mut self,
