@@ -4,6 +4,7 @@ pub mod RunLemmas
 pub mod CallLemmas
 pub mod LoopLemmas
 pub mod PassLemmas
+pub mod InPlaceLemmas
 pub mod QuickLemmas
 pub mod FollowLemmas
 pub mod StretchLemmas

@@ -1,13 +1,14 @@
-ghost use Rattle.std.specs.Prelude.{◌≡◌, ◌+◌, ◌<◌, [], ◌∷◌, ◌++◌, IfOk, OnOk, slice_get, replicate};
+ghost use Rattle.std.specs.Prelude.{◌≡◌, ◌+◌, ◌<◌, [], ◌∷◌, ◌++◌, ◌≤◌, IfOk, OnOk, slice_get, option_copied, replicate};
 ghost use Rattle.lua_value.specs.Lists.{adjusted};
 ghost use Rattle.lua_steps.specs.Machine as steps;
-ghost use Rattle.lua_steps.specs.Moves.{received, written};
+ghost use Rattle.lua_steps.specs.Moves.{received, written, values_from};
 ghost use Rattle.lua_steps.specs.Calls.{room, grown, rest_of, opened, begins, enter, asked, calls, tail_calls, waiting, hand};
+ghost use Rattle.lua_machine.specs.Passes.{Passed};
 ghost use Rattle.lua_machine.specs.Views.{says, IsOpened};
 ghost use Rattle.lua_machine.specs.Wants.{wanted_of};
 
 use crate::frame::{Frame, Wanted};
-use crate::state::State;
+use crate::state::{Span, State, push_span};
 use crate::stop::{NativeCall, Stop, Went};
 use lua_code::{Function, Shape};
 use lua_heap::Closure;
@@ -16,6 +17,14 @@ use lua_value::{Value, Values};
 use sk_types::NoMemory;
 use std::alloc::Global;
 use std::collections::VecDeque;
+
+/// The function with this number.
+#[inline(always)]
+fn function_at(code: &[Function], number: u64) -> Option<&Function>
+    ensures { option_copied result ≡ slice_get code.now number }
+{
+    code.get(number as usize)
+}
 
 /// How many slots a frame has: at least those that a short operand can name.
 #[inline(always)]
@@ -170,6 +179,97 @@ impl State {
         Ok(Went::On)
     }
 
+    /// The further arguments, where the function keeps them, become those of the frame that runs.
+    fn keep_dots(&mut self, shape: Shape, args: Span) -> Result<(), NoMemory>
+        requires from { args.from < 10000000000 }
+        requires none { self.old.top.dots ≡ [] }
+        ensures { OnOk result (self.new ≡ record self.old { top = record self.old.top { dots = rest_of shape.has_dots shape.params (values_from self.old.row args.from args.count) } }) }
+    {
+        if !shape.has_dots {
+            return Ok(());
+        }
+        let rest = Span {
+            from: args.from + shape.params as usize,
+            count: args.count.saturating_sub(shape.params),
+        };
+        let top = self.stack.top_mut();
+        push_span(&mut top.dots, self.row.as_slice(), rest)?;
+        Ok(())
+    }
+
+    /// Arguments that stand in the row become those of the frame that runs.
+    fn take_args(&mut self, shape: Shape, args: Span, base: u32) -> Result<(), NoMemory>
+        requires from { args.from < 10000000000 }
+        requires none { self.old.top.dots ≡ [] }
+        requires apart { args.from < base → args.from + args.count ≤ base }
+        ensures { OnOk result (self.new ≡ record self.old { top = record self.old.top { dots = rest_of shape.has_dots shape.params (values_from self.old.row args.from args.count) }; row = written (grown (base + room shape) self.old.row) base (adjusted shape.params (values_from self.old.row args.from args.count)) }) }
+    {
+        self.keep_dots(shape, args)?;
+        self.grow(base as usize + room(shape))?;
+        self.shift(args, base as usize, shape.params);
+        Ok(())
+    }
+
+    /// A closure is called with arguments that stand in the row; the frame that runs waits for its values.
+    fn call_closure_with(
+        &mut self,
+        code: &[Function],
+        closure: u64,
+        args: Span,
+        base: u32,
+        wants: Wanted,
+    ) -> Result<Went, NoMemory>
+        requires place { self.old.top.at < usize.MAX }
+        requires from { args.from < 10000000000 }
+        requires apart { args.from < base → args.from + args.count ≤ base }
+        ensures { IfOk result (λ went. enter code.now (slice_get self.old.closures closure) (values_from self.old.row args.from args.count) base (waiting (wanted_of wants) self.old.top ∷ self.old.below) self.old ≡ says went self.new) }
+    {
+        let Some(closure) = self.heap.closure_at(closure) else {
+            return Ok(Went::Stuck);
+        };
+        let Some(function) = function_at(code, closure.function()) else {
+            return Ok(Went::Stuck);
+        };
+        let shape = function.shape();
+        if self.left < u64::from(shape.pay) {
+            return Ok(Went::Off(Stop::Budget));
+        }
+        self.stack
+            .begin(self.alloc, wants, closure, shape.cells, base)?;
+        self.left -= u64::from(shape.pay);
+        self.take_args(shape, args, base)?;
+        Ok(Went::On)
+    }
+
+    /// A closure's body takes the place of the one that runs, with arguments that stand in the row.
+    fn replace_body_with(
+        &mut self,
+        code: &[Function],
+        closure: u64,
+        args: Span,
+    ) -> Result<Went, NoMemory>
+        requires from { args.from < 10000000000 }
+        requires after { self.old.top.base ≤ args.from }
+        ensures { IfOk result (λ went. enter code.now (slice_get self.old.closures closure) (values_from self.old.row args.from args.count) self.old.top.base self.old.below self.old ≡ says went self.new) }
+    {
+        let Some(closure) = self.heap.closure_at(closure) else {
+            return Ok(Went::Stuck);
+        };
+        let Some(function) = function_at(code, closure.function()) else {
+            return Ok(Went::Stuck);
+        };
+        let shape = function.shape();
+        if self.left < u64::from(shape.pay) {
+            return Ok(Went::Off(Stop::Budget));
+        }
+        let top = self.stack.top_mut();
+        let base = top.base;
+        top.reopen(closure.function(), closure.cells(), shape.cells, base)?;
+        self.left -= u64::from(shape.pay);
+        self.take_args(shape, args, base)?;
+        Ok(Went::On)
+    }
+
     /// The host is called, which costs a tick.
     fn ask(&mut self, called: Value, args: Values, wants: Wanted) -> Went
         requires { self.old.top.at < usize.MAX }
@@ -249,5 +349,70 @@ impl State {
         }
         self.receive(values)?;
         Ok(Went::On)
+    }
+
+    /// A call with arguments that stand in the row.
+    pub fn call_with(
+        &mut self,
+        code: &[Function],
+        line: Option<u32>,
+        called: Value,
+        args: Span,
+        base: u32,
+        wants: Wanted,
+    ) -> Result<Went, NoMemory>
+        requires place { self.old.top.at < usize.MAX }
+        requires from { args.from < 10000000000 }
+        requires apart { args.from < base → args.from + args.count ≤ base }
+        ensures { IfOk result (λ went. calls code.now line called (values_from self.old.row args.from args.count) base (waiting (wanted_of wants) self.old.top) self.old ≡ says went self.new) }
+    {
+        if let Value::Func(closure) = called {
+            return self.call_closure_with(code, closure, args, base, wants);
+        }
+        let values = self.values_of(args)?;
+        self.call(code, line, called, values, base, wants)
+    }
+
+    /// A tail call with arguments that stand in the row.
+    pub fn tail_call_with(
+        &mut self,
+        code: &[Function],
+        line: u32,
+        called: Value,
+        args: Span,
+        base: u32,
+    ) -> Result<Went, NoMemory>
+        requires place { self.old.top.at < usize.MAX }
+        requires from { args.from < 10000000000 }
+        requires after { self.old.top.base ≤ args.from }
+        ensures { IfOk result (λ went. tail_calls code.now line called (values_from self.old.row args.from args.count) base (waiting steps.OnTop self.old.top) self.old ≡ says went self.new) }
+    {
+        if let Value::Func(closure) = called {
+            return self.replace_body_with(code, closure, args);
+        }
+        let values = self.values_of(args)?;
+        self.tail_call(code, line, called, values, base)
+    }
+
+    /// A return of values that stand in the row, where the frame that waits wants them in slots at the same place or before.
+    pub fn hand_back(&mut self, values: Span) -> bool
+        requires { values.from < 10000000000 }
+        ensures { Passed result (hand (values_from self.old.row values.from values.count) self.old.below self.old) self.old self.new }
+    {
+        let Some(caller) = self.stack.caller() else {
+            return false;
+        };
+        let Wanted::InSlots { to, count } = caller.wants else {
+            return false;
+        };
+        let place = caller.base as usize + to as usize;
+        if values.from < place {
+            return false;
+        }
+        if !self.stack.leave() {
+            return false;
+        }
+        self.shift(values, place, count);
+        true
     }
 }

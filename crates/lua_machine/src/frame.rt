@@ -1,4 +1,4 @@
-ghost use Rattle.std.specs.Prelude.{◌≡◌, [], ◌∷◌, ◌<◌, OnOk, replicate};
+ghost use Rattle.std.specs.Prelude.{◌≡◌, [], ◌∷◌, ◌<◌, IfOk, OnOk, replicate};
 ghost use Rattle.lua_steps.specs.Moves.{at_next};
 ghost use Rattle.lua_steps.specs.Calls.{waiting};
 ghost use Rattle.lua_machine.specs.Wants.{wanted_of};
@@ -6,6 +6,7 @@ ghost use Rattle.lua_machine.specs.Stack.{plain};
 
 use lua_value::Values;
 use sk_types::NoMemory;
+use std::alloc::Global;
 use std::collections::VecDeque;
 use std::marker::Model;
 
@@ -145,5 +146,29 @@ impl Frame {
         forget_lists(&mut self.lists);
         self.wants = Wanted::OnTop;
         Ok(())
+    }
+
+    /// A new frame for such a call.
+    pub fn open(
+        alloc: Global,
+        function: u64,
+        ups: &[u64],
+        cells: u16,
+        base: u32,
+    ) -> Result<Frame, NoMemory>
+        ensures { IfOk result (λ frame. frame ≡ plain (record { function = function; cells = ups.now }) cells base) }
+    {
+        let mut frame = Frame {
+            function,
+            at: 0,
+            base,
+            cells: Vec::new(alloc),
+            ups: Vec::new(alloc),
+            dots: Values::new(alloc),
+            lists: VecDeque::new(alloc),
+            wants: Wanted::OnTop,
+        };
+        frame.reopen(function, ups, cells, base)?;
+        Ok(frame)
     }
 }

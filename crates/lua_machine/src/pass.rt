@@ -45,7 +45,7 @@ pub fn function_at(code: &[Function], number: u64) -> Option<&Function>
 /// A call of a closure begins in the dead frame after the one at a depth, where there is one. The one at the depth, which has come to
 /// that place, waits for its values.
 #[inline(always)]
-fn enter(
+pub fn enter(
     frames: &mut [Frame],
     depth: usize,
     at: usize,

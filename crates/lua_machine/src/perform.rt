@@ -11,7 +11,7 @@ ghost use Rattle.lua_machine.specs.Wants.{wanted_of};
 
 use crate::frame::Wanted;
 use crate::loops::Operands;
-use crate::state::State;
+use crate::state::{Span, State};
 use crate::stop::{Stop, Went};
 use lua_code::{Function, Op};
 use lua_model::{Binary, Unary};
@@ -101,12 +101,15 @@ impl State {
     {
         let line = self.line(code);
         let called = self.slot(base);
-        let values = self.slots_from(u32::from(base) + 1, args as usize)?;
         let top = self.stack.top();
         let Some(place) = top.base.checked_add(u32::from(base) + 1) else {
             return Err(NoMemory);
         };
-        self.call(code, Some(line), called, values, place, wants)
+        let args = Span {
+            from: place as usize,
+            count: args,
+        };
+        self.call_with(code, Some(line), called, args, place, wants)
     }
 
     fn tail_call_slots(&mut self, code: &[Function], base: u16, args: u16) -> Result<Went, NoMemory>
@@ -115,12 +118,15 @@ impl State {
     {
         let line = self.line(code);
         let called = self.slot(base);
-        let values = self.slots_from(u32::from(base) + 1, args as usize)?;
         let top = self.stack.top();
         let Some(place) = top.base.checked_add(u32::from(base) + 1) else {
             return Err(NoMemory);
         };
-        self.tail_call(code, line, called, values, place)
+        let args = Span {
+            from: place as usize,
+            count: args,
+        };
+        self.tail_call_with(code, line, called, args, place)
     }
 }
 
@@ -205,7 +211,10 @@ impl State {
     {
         let line = self.line(code);
         let called = self.slot(base);
-        let values = self.slots_from(u32::from(base) + 1, 2)?;
+        let args = Span {
+            from: self.place_of(u32::from(base) + 1),
+            count: 2,
+        };
         let top = self.stack.top();
         let Some(place) = top.base.checked_add(u32::from(base) + 3) else {
             return Err(NoMemory);
@@ -214,13 +223,20 @@ impl State {
             to: u32::from(base) + 3,
             count: results,
         };
-        self.call(code, Some(line), called, values, place, wants)
+        self.call_with(code, Some(line), called, args, place, wants)
     }
 
     fn hand_slots(&mut self, from: u16, count: u16) -> Result<Went, NoMemory>
         ensures { IfOk result (λ went. hand (slots_from self.old from count) self.old.below self.old ≡ says went self.new) }
     {
-        let values = self.slots_from(u32::from(from), count as usize)?;
+        let values = Span {
+            from: self.place_of(u32::from(from)),
+            count,
+        };
+        if self.hand_back(values) {
+            return Ok(Went::On);
+        }
+        let values = self.values_of(values)?;
         self.hand(values)
     }
 

@@ -1,15 +1,18 @@
-ghost use Rattle.std.specs.Prelude.{◌≡◌, [], ◌∷◌, IfOk, OnOk};
+ghost use Rattle.std.specs.Prelude.{◌≡◌, [], ◌∷◌, ◌<◌, IfOk, OnOk, slice_get, option_copied};
 ghost use Rattle.std.specs.Borrow.{sem};
 ghost use Rattle.lua_code.specs.Valid.{IsValid};
+ghost use Rattle.lua_steps.specs.Calls.{waiting};
 ghost use Rattle.lua_machine.specs.Lends.{LendsTop};
-ghost use Rattle.lua_machine.specs.Stack.{Left};
+ghost use Rattle.lua_machine.specs.Stack.{plain, Left, Reentered};
 ghost use Rattle.lua_machine.specs.Stretch.{Hurried};
+ghost use Rattle.lua_machine.specs.Wants.{wanted_of};
 
-use crate::frame::Frame;
+use crate::frame::{Frame, Wanted};
 use crate::pace::Pace;
+use crate::pass::enter;
 use crate::stretch::stretch;
 use lua_code::Function;
-use lua_heap::Heap;
+use lua_heap::{Closure, Heap};
 use lua_value::Value;
 use sk_types::NoMemory;
 use std::alloc::Global;
@@ -74,6 +77,16 @@ impl CallStack {
         Ok(())
     }
 
+    /// The frame that waits for the one that runs.
+    pub fn caller(&self) -> Option<&Frame>
+        ensures { option_copied result ≡ slice_get self.now.below 0 }
+    {
+        if self.depth == 0 {
+            return None;
+        }
+        Some(&self.frames[self.depth - 1])
+    }
+
     /// The frame that ran ends, and the one that waits for it goes on, where there is one.
     #[inline(always)]
     pub fn leave(&mut self) -> bool
@@ -101,5 +114,42 @@ impl CallStack {
         top.at = halt.pace.at;
         self.depth = halt.depth;
         halt.pace.left
+    }
+
+    /// A call of a closure begins in the dead frame after the one that runs, where there is one. The one that ran waits for its values.
+    fn reenter(&mut self, wants: Wanted, closure: &Closure, cells: u16, base: u32) -> bool
+        requires { self.old.top.at < usize.MAX }
+        ensures { Reentered result (wanted_of wants) (plain closure.now cells base) self.old self.new }
+    {
+        let frames = self.frames.as_mut_slice();
+        let top = &frames[self.depth];
+        let at = top.at;
+        if !enter(frames, self.depth, at, wants, closure, cells, base) {
+            return false;
+        }
+        self.depth += 1;
+        true
+    }
+
+    /// A call of a closure begins, in a dead frame where there is one, and else in a new one. The frame that ran waits for its values.
+    pub fn begin(
+        &mut self,
+        alloc: Global,
+        wants: Wanted,
+        closure: &Closure,
+        cells: u16,
+        base: u32,
+    ) -> Result<(), NoMemory>
+        requires { self.old.top.at < usize.MAX }
+        ensures { OnOk result (self.new ≡ record { top = plain closure.now cells base; below = waiting (wanted_of wants) self.old.top ∷ self.old.below }) }
+    {
+        if self.reenter(wants, closure, cells, base) {
+            return Ok(());
+        }
+        let frame = Frame::open(alloc, closure.function(), closure.cells(), cells, base)?;
+        let top = self.top_mut();
+        top.wait(wants);
+        self.enter(frame)?;
+        Ok(())
     }
 }

@@ -1,6 +1,7 @@
-ghost use Rattle.std.specs.Prelude.{◌≡◌, ◌+◌, ◌-◌, ◌<◌, ltb, true, false, [], slice_set, IfOk, OnOk, OnErr};
+ghost use Rattle.std.specs.Prelude.{◌≡◌, ◌+◌, ◌-◌, ◌<◌, ◌≤◌, if◌then◌else◌, ltb, true, false, [], ◌++◌, slice_set, IfOk, OnOk, OnErr};
+ghost use Rattle.lua_value.specs.declared.value.Value.TheVariants as value;
 ghost use Rattle.lua_steps.specs.Machine as steps;
-ghost use Rattle.lua_steps.specs.Moves.{next, jump, slot, with_slot, written, slots_from, gives, made, raised, place, refused, answered};
+ghost use Rattle.lua_steps.specs.Moves.{next, jump, slot, with_slot, written, values_from, gives, made, raised, place, refused, answered};
 ghost use Rattle.lua_steps.specs.Exec.{chosen, unless};
 ghost use Rattle.lua_value.specs.Lists.{value_at, adjusted};
 ghost use Rattle.lua_operators.specs.Answers.{told};
@@ -95,6 +96,36 @@ fn place(alloc: Global, name: &Bytes, line: Option<u32>) -> Result<Bytes, NoMemo
             Ok(text)
         }
     }
+}
+
+/// So many values of the row, from a place on.
+#[derive(Clone, Copy)]
+pub struct Span {
+    pub from: usize,
+    pub count: u16,
+}
+
+/// How many values of a span stand already from a place on.
+fn standing(span: Span, to: usize) -> usize
+    ensures within { result ≤ span.count }
+    ensures there { 0 < result → span.from ≡ to }
+{
+    if span.from == to {
+        span.count as usize
+    } else {
+        0
+    }
+}
+
+/// The values of a span of the row go last into a list.
+pub fn push_span(list: &mut Values, row: &[Value], span: Span) -> Result<(), NoMemory>
+    requires { span.from < 100000000000 }
+    ensures { OnOk result (list.new ≡ list.old ++ values_from row.now span.from span.count) }
+{
+    'values: for i in 0..span.count as usize {
+        list.push(value_at(row, span.from + i))?;
+    }
+    Ok(())
 }
 
 /// The ticks pass the budget.
@@ -209,16 +240,37 @@ impl State {
         }
     }
 
-    /// So many values from a slot on.
-    pub fn slots_from(&self, from: u32, count: usize) -> Result<Values, NoMemory>
-        requires { count < 100000000 }
-        ensures { IfOk result (λ vs. vs ≡ slots_from self.now from count) }
+    /// A value of a span, and nil past its end.
+    fn value_in(&self, span: Span, i: usize) -> Value
+        requires { span.from < 10000000000 }
+        ensures { result ≡ (if ltb i span.count then value_at self.now.row (span.from + i) else value.Nil) }
     {
-        let start = self.place_of(from);
-        let mut values = Values::new(self.alloc);
-        'values: for i in 0..count {
-            values.push(self.row_at(start + i))?;
+        if i < span.count as usize {
+            self.row_at(span.from + i)
+        } else {
+            Value::Nil
         }
+    }
+
+    /// The first `count` values of a span, filled with nil, move to a place of the row and those after it. It lies not within the span.
+    pub fn shift(&mut self, span: Span, to: usize, count: u16)
+        requires from { span.from < 10000000000 }
+        requires to { to < 10000000000 }
+        requires apart { span.from < to → span.from + span.count ≤ to }
+        ensures { self.new ≡ record self.old { row = written self.old.row to (adjusted count (values_from self.old.row span.from span.count)) } }
+    {
+        'values: for i in standing(span, to)..count as usize {
+            self.set_row(to + i, self.value_in(span, i));
+        }
+    }
+
+    /// The values of a span, as a list.
+    pub fn values_of(&self, span: Span) -> Result<Values, NoMemory>
+        requires { span.from < 10000000000 }
+        ensures { IfOk result (λ vs. vs ≡ values_from self.now.row span.from span.count) }
+    {
+        let mut values = Values::new(self.alloc);
+        push_span(&mut values, self.row.as_slice(), span)?;
         Ok(values)
     }
 

@@ -63,6 +63,21 @@ fn integers(stop: Result<Stop, GoError>, wanted: &[i64]) -> bool {
     true
 }
 
+fn values(stop: Result<Stop, GoError>, wanted: &[Value]) -> bool {
+    let Ok(Stop::Return(values)) = stop else {
+        return false;
+    };
+    if values.len() != wanted.len() {
+        return false;
+    }
+    for i in 0..wanted.len() {
+        if values.get(i) != wanted[i] {
+            return false;
+        }
+    }
+    true
+}
+
 /// Whether the chunk returns these integers.
 fn gives(alloc: Global, called: &[Op], ops: &[Op], wanted: &[i64]) -> Result<bool, Fail> {
     let mut machine = started(alloc, called, ops)?;
@@ -459,5 +474,171 @@ fn calls_stay_in_place(rt: HostRuntime) -> Result<(), Fail> {
     let code = code(alloc, fibonacci(alloc)?, &ops)?;
     let mut machine = machine(alloc, code, 10_000, 100)?;
     assert!(rt; integers(machine.go(Values::new(alloc)), &[55]));
+    Ok(())
+}
+
+/// function(a, b, ...) local x, y = ...  return b, x, y end
+const WITHOUT_FIRST: [Op; 2] = [
+    Op::DotsTo { to: 2, count: 2 },
+    Op::Return { from: 1, count: 3 },
+];
+
+/// Calls of the same function with five arguments, one, and three, whose frame and slots serve again.
+const CALLED_AGAIN: [Op; 27] = [
+    Op::Close { to: 0, function: 1 },
+    Op::Move { to: 1, from: 0 },
+    Op::Int { to: 2, value: 1 },
+    Op::Int { to: 3, value: 2 },
+    Op::Int { to: 4, value: 3 },
+    Op::Int { to: 5, value: 4 },
+    Op::Int { to: 6, value: 5 },
+    Op::Call {
+        base: 1,
+        args: 5,
+        results: 3,
+    },
+    Op::Move { to: 4, from: 0 },
+    Op::Int { to: 5, value: 9 },
+    Op::Call {
+        base: 4,
+        args: 1,
+        results: 2,
+    },
+    Op::Begin,
+    Op::Push { from: 1 },
+    Op::Push { from: 2 },
+    Op::Push { from: 3 },
+    Op::Push { from: 4 },
+    Op::Push { from: 5 },
+    Op::Move { to: 4, from: 0 },
+    Op::Int { to: 5, value: 1 },
+    Op::Int { to: 6, value: 8 },
+    Op::Int { to: 7, value: 6 },
+    Op::Call {
+        base: 4,
+        args: 3,
+        results: 4,
+    },
+    Op::Push { from: 4 },
+    Op::Push { from: 5 },
+    Op::Push { from: 6 },
+    Op::Push { from: 7 },
+    Op::ReturnList,
+];
+
+#[test]
+fn arguments_fit_in_place(rt: HostRuntime) -> Result<(), Fail> {
+    let mut machine = started(rt.alloc(), &WITHOUT_FIRST, &CALLED_AGAIN)?;
+    let wanted = [
+        Value::Int(2),
+        Value::Int(3),
+        Value::Int(4),
+        Value::Nil,
+        Value::Nil,
+        Value::Int(8),
+        Value::Int(6),
+        Value::Nil,
+        Value::Nil,
+    ];
+    let stop = machine.go(Values::new(rt.alloc()));
+    assert!(rt; values(stop, &wanted));
+    Ok(())
+}
+
+/// function g(n, a, ...) if n < 1 then local x, y = ...  return a, x, y end  return g(n - 1, n, a) end
+fn counts_down(alloc: Global) -> Result<Function, Fail> {
+    let ops = [
+        Op::UnlessLessInt {
+            left: 0,
+            value: 1,
+            pay: 1,
+            at: 3,
+        },
+        Op::DotsTo { to: 2, count: 2 },
+        Op::Return { from: 1, count: 3 },
+        Op::GetUp { to: 2, up: 0 },
+        Op::AddInt {
+            to: 3,
+            left: 0,
+            value: -1,
+        },
+        Op::Move { to: 4, from: 0 },
+        Op::Move { to: 5, from: 1 },
+        Op::TailCall { base: 2, args: 3 },
+        Op::ReturnList,
+    ];
+    let mut called = function(alloc, 2, &ops)?;
+    called.add_capture(Capture::Cell(0))?;
+    Ok(called)
+}
+
+#[test]
+fn tail_calls_move_down(rt: HostRuntime) -> Result<(), Fail> {
+    let alloc = rt.alloc();
+    let ops = [
+        Op::CloseCell {
+            cell: 0,
+            function: 1,
+        },
+        Op::GetCell { to: 0, cell: 0 },
+        Op::Int { to: 1, value: 3 },
+        Op::Call {
+            base: 0,
+            args: 1,
+            results: 3,
+        },
+        Op::Return { from: 0, count: 3 },
+    ];
+    let code = code(alloc, counts_down(alloc)?, &ops)?;
+    let mut machine = machine(alloc, code, 100, 100)?;
+    let wanted = [Value::Int(1), Value::Int(2), Value::Nil];
+    assert!(rt; values(machine.go(Values::new(alloc)), &wanted));
+    Ok(())
+}
+
+/// function(last, i) if i < last then return i + 1 end end
+const NEXT: [Op; 4] = [
+    Op::UnlessLess {
+        left: 1,
+        right: 0,
+        pay: 1,
+        at: 3,
+    },
+    Op::AddInt {
+        to: 3,
+        left: 1,
+        value: 1,
+    },
+    Op::Return { from: 3, count: 1 },
+    Op::Return { from: 0, count: 0 },
+];
+
+/// sum = 0  for i, e in next, 3, 0 do sum = sum + i end  return sum
+#[test]
+fn an_iterator_is_called(rt: HostRuntime) -> Result<(), Fail> {
+    let ops = [
+        Op::Int { to: 0, value: 0 },
+        Op::Close { to: 1, function: 1 },
+        Op::Int { to: 2, value: 3 },
+        Op::Int { to: 3, value: 0 },
+        Op::Int { to: 5, value: 7 },
+        Op::Jump { at: 7 },
+        Op::Add {
+            to: 0,
+            left: 0,
+            right: 4,
+        },
+        Op::ForCall {
+            base: 1,
+            results: 2,
+        },
+        Op::ForEach {
+            pay: 1,
+            base: 1,
+            at: 6,
+        },
+        Op::Return { from: 0, count: 1 },
+    ];
+    assert!(rt; gives(rt.alloc(), &NEXT, &ops, &[6])?);
     Ok(())
 }
