@@ -19,7 +19,6 @@ returns-in-GetCell-clause-ok c =
           let g = around f c.args.own.now c.args.ups.now before m in
           let x = in_hand g c.args.row.now cells c.args.pace in
           ap (λ (o : Op). perform code o x) c.in-GetCell.is
-          ∙ ap (λ (k : ℕ). gives c.in-GetCell.to (value_at cells k) x) (sym c.cell_of.ensures)
           ∙ h.is g cells;
       narrow = λ m. subst (λ (o : Op). NarrowAt (Some o) m) (sym c.in-GetCell.is) tt;
     }) c.reads.ensures.ok
@@ -32,7 +31,6 @@ returns-in-GetUp-clause-ok c =
           let g = around f c.args.own.now c.args.ups.now before m in
           let x = in_hand g c.args.row.now cells c.args.pace in
           ap (λ (o : Op). perform code o x) c.in-GetUp.is
-          ∙ ap (λ (k : ℕ). gives c.in-GetUp.to (value_at cells k) x) (sym c.cell_of-in-GetUp.ensures)
           ∙ h.is g cells;
       narrow = λ m. subst (λ (o : Op). NarrowAt (Some o) m) (sym c.in-GetUp.is) tt;
     }) c.reads-in-GetUp.ensures.ok
@@ -45,7 +43,7 @@ returns-in-SetCell-clause-ok c =
       is = λ code f before m.
           let x = in_hand (around f c.args.own.now c.args.ups.now before m) row cells c.args.pace in
           ap (λ (o : Op). perform code o x) c.in-SetCell.is
-          ∙ ap₂ (λ (k : ℕ) (v : Value). next (record x { cells = slice_set cells k v })) (sym c.cell_of-in-SetCell.ensures) (value_after before row c.in-SetCell.from ∙ sym c.slot.ensures)
+          ∙ ap₂ (λ (k : ℕ) (v : Value). next (record x { cells = slice_set cells k v })) (sym c.cell_of.ensures) (value_after before row c.in-SetCell.from ∙ sym c.slot.ensures)
           ∙ ap (λ (cs : List Value). next (record x { cells = cs })) (sym (ap (λ (h : Contents). h.cells) c.put_in_cell.ensures));
       narrow = λ m. subst (λ (o : Op). NarrowAt (Some o) m) (sym c.in-SetCell.is) tt;
     }
