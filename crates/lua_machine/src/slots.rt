@@ -143,7 +143,7 @@ pub fn pays(pay: u8, pace: Pace) -> Option<Pace>
     })
 }
 
-/// Pays and goes on where it holds, and else jumps, to one of so many operations.
+/// Pays and goes on where it holds, and else jumps, to one of so many operations. A jump's place is read only where it is taken, so that no register holds it beside the place at hand.
 #[inline(always)]
 pub fn chooses(holds: bool, pay: u8, to: &u32, pace: Pace, _count: usize) -> Option<Pace>
     requires next { pace.at + 1 < _count }

@@ -1,10 +1,9 @@
 use Rattle.std.proofs.Common.{ℕ, Some, sym, ap, ap₂, ◌∙◌, subst}
 use Rattle.std.specs.Prelude.{slice_set, List}
 use Rattle.lua_value.specs.declared.value.Value.{Value}
-use Rattle.lua_value.specs.Lists.{value_at}
 use Rattle.lua_heap.specs.Contents.{Contents}
 use Rattle.lua_code.specs.declared.op.Op.{Op}
-use Rattle.lua_steps.specs.Moves.{next, gives}
+use Rattle.lua_steps.specs.Moves.{next}
 use Rattle.lua_steps.specs.Exec.{perform}
 use Rattle.lua_follow.specs.Follows.{NarrowAt}
 use Rattle.lua_machine.specs.Quick.{around, in_hand}
