@@ -180,10 +180,6 @@ pub some_map : (o : Option Pace) (P Q : Pace → Type 0) → ((p : Pace) → P p
 some_map None P Q f h = tt
 some_map (Some p) P Q f h = f p h
 
-pub none_map : (o : Option Pace) (P Q : Type 0) → (P → Q) → IfNone o P → IfNone o Q
-none_map None P Q f h = f h
-none_map (Some p) P Q f h = tt
-
 pub none_more : (o : Option Pace) (row after : List Value) (h : Contents) → IfNone o (after ≡ row) → IfNone o ((after ≡ row) × (h ≡ h))
 none_more None row after h e = (e, refl)
 none_more (Some p) row after h e = tt

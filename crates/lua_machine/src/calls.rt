@@ -8,6 +8,7 @@ ghost use Rattle.lua_machine.specs.Views.{says, IsOpened};
 ghost use Rattle.lua_machine.specs.Wants.{wanted_of};
 
 use crate::frame::{Frame, Wanted};
+use crate::pass::function_at;
 use crate::state::{Span, State, push_span};
 use crate::stop::{NativeCall, Stop, Went};
 use lua_code::{Function, Shape};
@@ -17,14 +18,6 @@ use lua_value::{Value, Values};
 use sk_types::NoMemory;
 use std::alloc::Global;
 use std::collections::VecDeque;
-
-/// The function with this number.
-#[inline(always)]
-fn function_at(code: &[Function], number: u64) -> Option<&Function>
-    ensures { option_copied result ≡ slice_get code.now number }
-{
-    code.get(number as usize)
-}
 
 /// How many slots a frame has: at least those that a short operand can name.
 #[inline(always)]

@@ -34,7 +34,7 @@ pub fn cell_of(cells: &[u64], i: u16) -> u64
 pub fn own_of(frame: &Frame, i: u16) -> u64
     ensures { result ≡ cell_of frame.now.cells i }
 {
-    cell_of(frame.cells.as_slice(), i)
+    cell_of(frame.own_cells(), i)
 }
 
 /// One of the cells of a frame's closure.
@@ -42,7 +42,7 @@ pub fn own_of(frame: &Frame, i: u16) -> u64
 pub fn up_of(frame: &Frame, i: u16) -> u64
     ensures { result ≡ cell_of frame.now.ups i }
 {
-    cell_of(frame.ups.as_slice(), i)
+    cell_of(frame.up_cells(), i)
 }
 
 /// The value of a cell, and nil where the heap gave none.

@@ -92,6 +92,22 @@ fn forget_lists(kept: &mut VecDeque<Values>)
 }
 
 impl Frame {
+    /// The cells of its captured locals.
+    #[inline(always)]
+    pub fn own_cells(&self) -> &[u64]
+        ensures { result.now ≡ self.now.cells }
+    {
+        self.cells.as_slice()
+    }
+
+    /// The cells of its closure.
+    #[inline(always)]
+    pub fn up_cells(&self) -> &[u64]
+        ensures { result.now ≡ self.now.ups }
+    {
+        self.ups.as_slice()
+    }
+
     pub fn advance(&mut self)
         requires { self.old.at < usize.MAX }
         ensures { self.new ≡ at_next self.old }

@@ -6,6 +6,7 @@ ghost use Rattle.lua_value.specs.Lists.{value_at};
 ghost use Rattle.lua_model.specs.declared.operator.Binary.TheVariants as binary_op;
 ghost use Rattle.lua_code.specs.declared.op.Op.TheVariants as op;
 ghost use Rattle.lua_code.specs.Valid.{IsValid};
+ghost use Rattle.lua_steps.specs.Exec.{cell_of};
 ghost use Rattle.lua_machine.specs.Quick.{Quick, OnSlots, Within, Near, IsGiven, IsOfSlots, IsOfInt, IsTestOfSlots, IsTestOfInt, Turns, Gives, Ran, Led};
 
 use crate::cells::{own_of, put_in_cell, up_of};
@@ -96,15 +97,15 @@ fn test_of_slots(
     left: u8,
     right: u8,
     pay: u8,
-    to: u32,
+    to: &u32,
     pace: Pace,
     _count: usize,
 ) -> Option<Pace>
     requires left { left < length row.now }
     requires right { right < length row.now }
     requires next { pace.at + 1 < _count }
-    requires jump { to < _count }
-    requires op { IsTestOfSlots _op o left right pay to }
+    requires jump { to.now < _count }
+    requires op { IsTestOfSlots _op o left right pay to.now }
     ensures ok { IfSome result (λ p. OnSlots _op row.now pace row.now p) }
     ensures place { IfSome result (λ p. p.at < _count) }
 {
@@ -125,14 +126,14 @@ fn test_of_int(
     left: u16,
     right: i8,
     pay: u8,
-    to: u32,
+    to: &u32,
     pace: Pace,
     _count: usize,
 ) -> Option<Pace>
     requires left { left < length row.now }
     requires next { pace.at + 1 < _count }
-    requires jump { to < _count }
-    requires op { IsTestOfInt _op o left right pay to }
+    requires jump { to.now < _count }
+    requires op { IsTestOfInt _op o left right pay to.now }
     ensures ok { IfSome result (λ p. OnSlots _op row.now pace row.now p) }
     ensures place { IfSome result (λ p. p.at < _count) }
 {
@@ -150,14 +151,14 @@ fn next_turn(
     row: &mut [Value],
     pay: u8,
     base: u16,
-    to: u32,
+    to: &u32,
     pace: Pace,
     _count: usize,
 ) -> Option<Pace>
     requires slots { base + 3 < length row.old }
     requires next { pace.at + 1 < _count }
-    requires jump { to < _count }
-    ensures ok { IfSome result (λ p. OnSlots (op.ForLoop pay base to) row.old pace row.new p) }
+    requires jump { to.now < _count }
+    ensures ok { IfSome result (λ p. OnSlots (op.ForLoop pay base to.now) row.old pace row.new p) }
     ensures place { IfSome result (λ p. p.at < _count) }
     ensures none { IfNone result (row.new ≡ row.old) }
 {
@@ -177,7 +178,7 @@ fn turn_by(
     row: &mut [Value],
     pay: u8,
     base: u16,
-    to: u32,
+    to: &u32,
     pace: Pace,
     _count: usize,
     left: u64,
@@ -186,8 +187,8 @@ fn turn_by(
 ) -> Option<Pace>
     requires slots { base + 3 < length row.old }
     requires next { pace.at + 1 < _count }
-    requires jump { to < _count }
-    ensures ok { IfSome result (λ p. Turns left value step pay base to row.old pace row.new p) }
+    requires jump { to.now < _count }
+    ensures ok { IfSome result (λ p. Turns left value step pay base to.now row.old pace row.new p) }
     ensures place { IfSome result (λ p. p.at < _count) }
     ensures none { IfNone result (row.new ≡ row.old) }
 {
@@ -204,18 +205,18 @@ fn turn_by(
     let by = long(step);
     put_turn(row, base, left - 1, next, by);
     Some(Pace {
-        at: to as usize,
+        at: *to as usize,
         left: paid.left,
     })
 }
 
 /// A slot whose truth is asked.
 #[inline(always)]
-fn tests(_op: Op, row: &[Value], from: u16, to: u32, pace: Pace, _count: usize) -> Option<Pace>
+fn tests(_op: Op, row: &[Value], from: u16, to: &u32, pace: Pace, _count: usize) -> Option<Pace>
     requires from { from < length row.now }
     requires next { pace.at + 1 < _count }
-    requires jump { to < _count }
-    requires op { _op ≡ op.Test from to }
+    requires jump { to.now < _count }
+    requires op { _op ≡ op.Test from to.now }
     ensures ok { IfSome result (λ p. OnSlots _op row.now pace row.now p) }
     ensures place { IfSome result (λ p. p.at < _count) }
 {
@@ -225,18 +226,18 @@ fn tests(_op: Op, row: &[Value], from: u16, to: u32, pace: Pace, _count: usize) 
 
 /// The same, for a jump where it is true.
 #[inline(always)]
-fn tests_not(_op: Op, row: &[Value], from: u16, to: u32, pace: Pace, _count: usize) -> Pace
+fn tests_not(_op: Op, row: &[Value], from: u16, to: &u32, pace: Pace, _count: usize) -> Pace
     requires from { from < length row.now }
     requires next { pace.at + 1 < _count }
-    requires jump { to < _count }
-    requires op { _op ≡ op.TestNot from to }
+    requires jump { to.now < _count }
+    requires op { _op ≡ op.TestNot from to.now }
     ensures ok { OnSlots _op row.now pace row.now result }
     ensures place { result.at < _count }
 {
     let value = slot(row, from);
     if value.is_true() {
         return Pace {
-            at: to as usize,
+            at: *to as usize,
             left: pace.left,
         };
     }
@@ -248,16 +249,16 @@ fn tests_not(_op: Op, row: &[Value], from: u16, to: u32, pace: Pace, _count: usi
 
 /// The ticks are paid, and a jump follows.
 #[inline(always)]
-fn pays_and_jumps(_op: Op, _row: &[Value], pay: u8, to: u32, pace: Pace) -> Option<Pace>
-    requires op { _op ≡ op.Loop pay to }
+fn pays_and_jumps(_op: Op, _row: &[Value], pay: u8, to: &u32, pace: Pace) -> Option<Pace>
+    requires op { _op ≡ op.Loop pay to.now }
     ensures ok { IfSome result (λ p. OnSlots _op _row.now pace _row.now p) }
-    ensures place { IfSome result (λ p. p.at ≡ to) }
+    ensures place { IfSome result (λ p. p.at ≡ to.now) }
 {
     let Some(paid) = pays(pay, pace) else {
         return None;
     };
     Some(Pace {
-        at: to as usize,
+        at: *to as usize,
         left: paid.left,
     })
 }
@@ -306,19 +307,22 @@ fn constant(_op: Op, row: &mut [Value], to: u16, n: i32, pace: Pace) -> Pace
     given(_op, row, to, value, pace)
 }
 
-/// The value of a cell goes to a slot, if the heap gave the cell.
+/// The value of one of these cells goes to a slot, if there is such a cell.
 #[inline(always)]
-fn reads(row: &mut [Value], heap: &Heap, to: u16, cell: u64, pace: Pace) -> Option<Pace>
+fn reads(row: &mut [Value], heap: &Heap, cells: &[u64], to: u16, i: u16, pace: Pace) -> Option<Pace>
     requires slot { to < length row.old }
     requires place { pace.at < usize.MAX }
-    ensures ok { IfSome result (λ p. Gives row.old pace to (value_at heap.now.cells cell) row.new p) }
+    ensures ok { IfSome result (λ p. Gives row.old pace to (value_at heap.now.cells (cell_of cells.now i)) row.new p) }
     ensures place { IfSome result (λ p. p.at ≡ pace.at + 1) }
     ensures none { IfNone result (row.new ≡ row.old) }
 {
-    if cell >= heap.cell_count() as u64 {
+    let Some(cell) = cells.get(i as usize) else {
+        return None;
+    };
+    if *cell >= heap.cell_count() as u64 {
         return None;
     }
-    let value = heap.cell_get(cell);
+    let value = heap.cell_get(*cell);
     Some(gives(row, to, value, pace))
 }
 
@@ -408,20 +412,20 @@ fn quick(
             at: at as usize,
             left: pace.left,
         }),
-        Op::Loop { pay, at } => pays_and_jumps(*op, row, pay, at, pace),
-        Op::Test { from, at } => tests(*op, row, from, at, pace, _count),
-        Op::TestNot { from, at } => Some(tests_not(*op, row, from, at, pace, _count)),
+        Op::Loop { pay, ref at } => pays_and_jumps(*op, row, pay, at, pace),
+        Op::Test { from, ref at } => tests(*op, row, from, at, pace, _count),
+        Op::TestNot { from, ref at } => Some(tests_not(*op, row, from, at, pace, _count)),
         Op::UnlessLess {
             left,
             right,
             pay,
-            at,
+            ref at,
         } => test_of_slots(*op, Binary::Less, row, left, right, pay, at, pace, _count),
         Op::UnlessLessEqual {
             left,
             right,
             pay,
-            at,
+            ref at,
         } => test_of_slots(
             *op,
             Binary::LessEqual,
@@ -437,13 +441,13 @@ fn quick(
             left,
             right,
             pay,
-            at,
+            ref at,
         } => test_of_slots(*op, Binary::Equal, row, left, right, pay, at, pace, _count),
         Op::UnlessNotEqual {
             left,
             right,
             pay,
-            at,
+            ref at,
         } => test_of_slots(
             *op,
             Binary::NotEqual,
@@ -459,7 +463,7 @@ fn quick(
             left,
             value,
             pay,
-            at,
+            ref at,
         } => test_of_int(
             *op,
             Binary::Less,
@@ -475,7 +479,7 @@ fn quick(
             left,
             value,
             pay,
-            at,
+            ref at,
         } => test_of_int(
             *op,
             Binary::LessEqual,
@@ -491,7 +495,7 @@ fn quick(
             left,
             value,
             pay,
-            at,
+            ref at,
         } => test_of_int(
             *op,
             Binary::Greater,
@@ -507,7 +511,7 @@ fn quick(
             left,
             value,
             pay,
-            at,
+            ref at,
         } => test_of_int(
             *op,
             Binary::GreaterEqual,
@@ -523,7 +527,7 @@ fn quick(
             left,
             value,
             pay,
-            at,
+            ref at,
         } => test_of_int(
             *op,
             Binary::Equal,
@@ -539,7 +543,7 @@ fn quick(
             left,
             value,
             pay,
-            at,
+            ref at,
         } => test_of_int(
             *op,
             Binary::NotEqual,
@@ -551,9 +555,9 @@ fn quick(
             pace,
             _count,
         ),
-        Op::ForLoop { pay, base, at } => next_turn(row, pay, base, at, pace, _count),
-        Op::GetCell { to, cell } => reads(row, heap, to, own_of(frame, cell), pace),
-        Op::GetUp { to, up } => reads(row, heap, to, up_of(frame, up), pace),
+        Op::ForLoop { pay, base, ref at } => next_turn(row, pay, base, at, pace, _count),
+        Op::GetCell { to, cell } => reads(row, heap, frame.own_cells(), to, cell, pace),
+        Op::GetUp { to, up } => reads(row, heap, frame.up_cells(), to, up, pace),
         Op::SetCell { cell, from } => {
             put_in_cell(heap, own_of(frame, cell), slot(row, from));
             Some(Pace {

@@ -143,12 +143,12 @@ pub fn pays(pay: u8, pace: Pace) -> Option<Pace>
     })
 }
 
-/// Pays and goes on where it holds, and else jumps, to one of so many operations.
+/// Pays and goes on where it holds, and else jumps, to one of so many operations. A jump's place is read only where it is taken, so that no register holds it beside the place at hand.
 #[inline(always)]
-pub fn chooses(holds: bool, pay: u8, to: u32, pace: Pace, _count: usize) -> Option<Pace>
+pub fn chooses(holds: bool, pay: u8, to: &u32, pace: Pace, _count: usize) -> Option<Pace>
     requires next { pace.at + 1 < _count }
-    requires jump { to < _count }
-    ensures ok { IfSome result (λ p. Chooses holds pay to pace p) }
+    requires jump { to.now < _count }
+    ensures ok { IfSome result (λ p. Chooses holds pay to.now pace p) }
     ensures place { IfSome result (λ p. p.at < _count) }
 {
     if holds {
@@ -161,7 +161,7 @@ pub fn chooses(holds: bool, pay: u8, to: u32, pace: Pace, _count: usize) -> Opti
         });
     }
     Some(Pace {
-        at: to as usize,
+        at: *to as usize,
         left: pace.left,
     })
 }

@@ -18,12 +18,12 @@ returns-clause-ok c =
     some_map c.turn_by.result _ _ (λ p h. record {
       is = λ code g cells.
           let x = in_hand g row cells c.args.pace in
-          ap (λ (u : Value). numeric_next u (slot x (base + 1)) (slot x (base + 2)) c.args.pay base c.args.to x) (value_after g.before row base ∙ sym c.slot.ensures ∙ ints.is-0)
-          ∙ ap (λ (v : Value). numeric_next (value.Int ints.left) v (slot x (base + 2)) c.args.pay base c.args.to x) (value_after g.before row (base + 1) ∙ sym c.slot_after.ensures ∙ ints.is-1)
-          ∙ ap (λ (w : Value). numeric_next (value.Int ints.left) (value.Int ints.value) w c.args.pay base c.args.to x) (value_after g.before row (base + 2) ∙ sym c.slot_after-2.ensures ∙ ints.is-2)
-          ∙ ap (λ (n : ℕ). next_turn n ints.value ints.step c.args.pay base c.args.to x) turns
-          ∙ ap (λ (z : ℤ). next_turn c.cast_unsigned-turns.result z ints.step c.args.pay base c.args.to x) at
-          ∙ ap (λ (z : ℤ). next_turn c.cast_unsigned-turns.result (to_z w64 (of_z w64 ints.value)) z c.args.pay base c.args.to x) step
+          ap (λ (u : Value). numeric_next u (slot x (base + 1)) (slot x (base + 2)) c.args.pay base c.args.to.now x) (value_after g.before row base ∙ sym c.slot.ensures ∙ ints.is-0)
+          ∙ ap (λ (v : Value). numeric_next (value.Int ints.left) v (slot x (base + 2)) c.args.pay base c.args.to.now x) (value_after g.before row (base + 1) ∙ sym c.slot_after.ensures ∙ ints.is-1)
+          ∙ ap (λ (w : Value). numeric_next (value.Int ints.left) (value.Int ints.value) w c.args.pay base c.args.to.now x) (value_after g.before row (base + 2) ∙ sym c.slot_after-2.ensures ∙ ints.is-2)
+          ∙ ap (λ (n : ℕ). next_turn n ints.value ints.step c.args.pay base c.args.to.now x) turns
+          ∙ ap (λ (z : ℤ). next_turn c.cast_unsigned-turns.result z ints.step c.args.pay base c.args.to.now x) at
+          ∙ ap (λ (z : ℤ). next_turn c.cast_unsigned-turns.result (to_z w64 (of_z w64 ints.value)) z c.args.pay base c.args.to.now x) step
           ∙ h.is g cells;
       narrow = λ m. tt;
     }) c.turn_by.ensures.ok

@@ -12,6 +12,6 @@ returns-clause-ok c =
     record {
       is = λ code g cells.
           ap (λ (o : Op). perform code o (in_hand g c.args._row.now cells c.args.pace)) c.requires.op
-          ∙ c.in-Some.ensures.is g c.args._row.now cells (λ (t : Machine). jump c.args.to t);
+          ∙ c.in-Some.ensures.is g c.args._row.now cells (λ (t : Machine). jump c.args.to.now t);
       narrow = λ m. subst (λ (o : Op). NarrowAt (Some o) m) (sym c.requires.op) tt;
     }

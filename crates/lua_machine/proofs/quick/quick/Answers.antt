@@ -1,11 +1,11 @@
-use Rattle.std.proofs.Common.{ℕ, Some, sym, ap, ap₂, ◌∙◌, subst}
+use Rattle.std.proofs.Common.{◌≡◌, ℕ, Some, sym, ap, ap₂, ◌∙◌, subst}
 use Rattle.std.specs.Prelude.{slice_set, List}
 use Rattle.lua_value.specs.declared.value.Value.{Value}
 use Rattle.lua_value.specs.Lists.{value_at}
 use Rattle.lua_heap.specs.Contents.{Contents}
 use Rattle.lua_code.specs.declared.op.Op.{Op}
 use Rattle.lua_steps.specs.Moves.{next, gives}
-use Rattle.lua_steps.specs.Exec.{perform}
+use Rattle.lua_steps.specs.Exec.{cell_of, perform}
 use Rattle.lua_follow.specs.Follows.{NarrowAt}
 use Rattle.lua_machine.specs.Quick.{around, in_hand}
 use Rattle.lua_machine.proofs.QuickLemmas.{value_after, some_map}
@@ -18,9 +18,8 @@ returns-in-GetCell-clause-ok c =
       is = λ code f before m.
           let g = around f c.args.frame.now.cells c.args.frame.now.ups before m in
           let x = in_hand g c.args.row.now cells c.args.pace in
-          ap (λ (o : Op). perform code o x) c.in-GetCell.is
-          ∙ ap (λ (k : ℕ). gives c.in-GetCell.to (value_at cells k) x) (sym c.own_of.ensures)
-          ∙ h.is g cells;
+          let reads : perform code c.args.op.now x ≡ gives c.in-GetCell.to (value_at cells (cell_of c.args.frame.now.cells c.in-GetCell.cell)) x = ap (λ (o : Op). perform code o x) c.in-GetCell.is in
+          reads ∙ ap (λ (ks : List ℕ). gives c.in-GetCell.to (value_at cells (cell_of ks c.in-GetCell.cell)) x) (sym c.own_cells.ensures) ∙ h.is g cells;
       narrow = λ m. subst (λ (o : Op). NarrowAt (Some o) m) (sym c.in-GetCell.is) tt;
     }) c.reads.ensures.ok
 
@@ -31,9 +30,8 @@ returns-in-GetUp-clause-ok c =
       is = λ code f before m.
           let g = around f c.args.frame.now.cells c.args.frame.now.ups before m in
           let x = in_hand g c.args.row.now cells c.args.pace in
-          ap (λ (o : Op). perform code o x) c.in-GetUp.is
-          ∙ ap (λ (k : ℕ). gives c.in-GetUp.to (value_at cells k) x) (sym c.up_of.ensures)
-          ∙ h.is g cells;
+          let reads : perform code c.args.op.now x ≡ gives c.in-GetUp.to (value_at cells (cell_of c.args.frame.now.ups c.in-GetUp.up)) x = ap (λ (o : Op). perform code o x) c.in-GetUp.is in
+          reads ∙ ap (λ (ks : List ℕ). gives c.in-GetUp.to (value_at cells (cell_of ks c.in-GetUp.up)) x) (sym c.up_cells.ensures) ∙ h.is g cells;
       narrow = λ m. subst (λ (o : Op). NarrowAt (Some o) m) (sym c.in-GetUp.is) tt;
     }) c.reads-in-GetUp.ensures.ok
 
@@ -45,7 +43,7 @@ returns-in-SetCell-clause-ok c =
       is = λ code f before m.
           let x = in_hand (around f c.args.frame.now.cells c.args.frame.now.ups before m) row cells c.args.pace in
           ap (λ (o : Op). perform code o x) c.in-SetCell.is
-          ∙ ap₂ (λ (k : ℕ) (v : Value). next (record x { cells = slice_set cells k v })) (sym c.own_of-in-SetCell.ensures) (value_after before row c.in-SetCell.from ∙ sym c.slot.ensures)
+          ∙ ap₂ (λ (k : ℕ) (v : Value). next (record x { cells = slice_set cells k v })) (sym c.own_of.ensures) (value_after before row c.in-SetCell.from ∙ sym c.slot.ensures)
           ∙ ap (λ (cs : List Value). next (record x { cells = cs })) (sym (ap (λ (h : Contents). h.cells) c.put_in_cell.ensures));
       narrow = λ m. subst (λ (o : Op). NarrowAt (Some o) m) (sym c.in-SetCell.is) tt;
     }
@@ -58,7 +56,7 @@ returns-in-SetUp-clause-ok c =
       is = λ code f before m.
           let x = in_hand (around f c.args.frame.now.cells c.args.frame.now.ups before m) row cells c.args.pace in
           ap (λ (o : Op). perform code o x) c.in-SetUp.is
-          ∙ ap₂ (λ (k : ℕ) (v : Value). next (record x { cells = slice_set cells k v })) (sym c.up_of-in-SetUp.ensures) (value_after before row c.in-SetUp.from ∙ sym c.slot-in-SetUp.ensures)
+          ∙ ap₂ (λ (k : ℕ) (v : Value). next (record x { cells = slice_set cells k v })) (sym c.up_of.ensures) (value_after before row c.in-SetUp.from ∙ sym c.slot-in-SetUp.ensures)
           ∙ ap (λ (cs : List Value). next (record x { cells = cs })) (sym (ap (λ (h : Contents). h.cells) c.put_in_cell-in-SetUp.ensures));
       narrow = λ m. subst (λ (o : Op). NarrowAt (Some o) m) (sym c.in-SetUp.is) tt;
     }

@@ -17,9 +17,9 @@ returns-clause-ok c =
           let x = in_hand g row cells c.args.pace in
           let texts = g.machine.aside.heap.texts in
           c.requires.op.is code x
-          ∙ ap (λ (a : Answer). unless a (line code x) c.args.pay c.args.to x)
+          ∙ ap (λ (a : Answer). unless a (line code x) c.args.pay c.args.to.now x)
           (ap₂ (binary texts c.args.o) (value_after g.before row c.args.left ∙ sym c.slot-u.ensures) (sym imm) ∙ c.in-Some.ensures.is texts)
-          ∙ ap (λ (b : Bool). chosen b c.args.pay c.args.to x) (sym c.is_true.ensures)
+          ∙ ap (λ (b : Bool). chosen b c.args.pay c.args.to.now x) (sym c.is_true.ensures)
           ∙ h.is g row cells;
       narrow = c.requires.op.narrow;
     }) c.chooses.ensures.ok

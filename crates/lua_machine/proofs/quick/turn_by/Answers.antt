@@ -18,7 +18,7 @@ returns-clause-ok c =
     let n = c.args.left in
     let step = c.args.step in
     let some : 0 < n = omega arith in
-    let p : Pace = record { at = c.args.to; left = c.in-Some.paid.left } in
+    let p : Pace = record { at = c.args.to.now; left = c.in-Some.paid.left } in
     let v = c.after-next.ensures ∙ ap₂ (λ (a b : ℤ). value.Int (lua.add a b)) (to_z-of_z w64 c.args.value c.ranges.value) (to_z-of_z w64 step c.ranges.step) in
     let w = c.long-by.ensures ∙ ap (λ (a : ℤ). value.Int a) (to_z-of_z w64 step c.ranges.step) in
     let slots = c.put_turn.ensures ∙ ap₂ (λ (a b : Value). written row c.args.base (counted (n - 1) ∷ a ∷ b ∷ a ∷ [])) v w in
@@ -26,7 +26,7 @@ returns-clause-ok c =
     record {
       is = λ g cells.
           let x = in_hand g row cells p in
-          next_some n c.args.value step c.args.pay c.args.base c.args.to (in_hand g row cells c.args.pace) some
-          ∙ c.in-Some.ensures.is g row cells (λ (t : Machine). jump c.args.to (turn (n - 1) (lua.add c.args.value step) step c.args.base t))
+          next_some n c.args.value step c.args.pay c.args.base c.args.to.now (in_hand g row cells c.args.pace) some
+          ∙ c.in-Some.ensures.is g row cells (λ (t : Machine). jump c.args.to.now (turn (n - 1) (lua.add c.args.value step) step c.args.base t))
           ∙ ap (λ (r : List Value). On (record x { row = r })) (written_after g.before row c.args.base turned ∙ ap (λ (r : List Value). g.before ++ r) (sym slots));
     }
