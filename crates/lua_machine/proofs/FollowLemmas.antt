@@ -1,5 +1,5 @@
 -- A machine comes to one stop alone, and so to that of the states as which it waited.
-use Rattle.std.proofs.Common.{◌≡◌, ℕ, zero, suc, ◌<◌, ◌≤◌, ◌⊎◌, inl, inr, Bool, true, false, List, refl, sym, ap, ap₂, ◌∙◌, subst, arith}
+use Rattle.std.proofs.Common.{◌≡◌, ℕ, zero, suc, ◌≤◌, ◌⊎◌, inl, inr, Bool, true, false, List, refl, sym, ap, ap₂, ◌∙◌, subst, arith}
 use Rattle.std.specs.Prelude.{ltb}
 use Rattle.std.proofs.lemmas.Bool.{ltb-false, ltb-true}
 use Rattle.lua_value.specs.declared.value.Value.{Value}
@@ -9,7 +9,7 @@ use Rattle.lua_meaning.specs.State.{State}
 use Rattle.lua_meaning.specs.Until as until
 use Rattle.lua_meaning.specs.Until.{Until, Asks}
 use Rattle.lua_meaning.specs.Laws.{StepIsDetermined}
-use Rattle.lua_meaning.specs.Known.{Known, KnownIn}
+use Rattle.lua_meaning.specs.Known.{Known}
 use Rattle.lua_meaning.proofs.KnownRuns.{known_stays}
 use Rattle.lua_steps.specs.Machine as steps
 use Rattle.lua_steps.specs.Machine.{Code, Machine, Went, On, Off, Paused, Stuck}
@@ -17,7 +17,7 @@ use Rattle.lua_steps.specs.Calls.{given}
 use Rattle.lua_steps.specs.Exec.{exec, op_at}
 use Rattle.lua_steps.specs.Run.{then_on, run}
 use Rattle.lua_follow.specs.Stands.{Waits}
-use Rattle.lua_follow.specs.Follows.{SameStop, RestsAt, NarrowAt, NarrowRun, Stops, Meets, Pauses, CodeFollows}
+use Rattle.lua_follow.specs.Follows.{SameStop, RestsAt, NarrowAt, NarrowRun, Meets, CodeFollows}
 use Rattle.lua_machine.specs.declared.stop.Stop.{Stop}
 use Rattle.lua_machine.specs.declared.stop.Stop.TheVariants as stop
 use Rattle.lua_machine.specs.declared.stop.GoError.{GoError}

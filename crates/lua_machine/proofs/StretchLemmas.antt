@@ -1,11 +1,10 @@
 -- A stretch goes on by quick operations, and by calls and returns.
 use Rattle.std.proofs.Common.{◌≡◌, ℕ, ◌<◌, List, Option, Some, refl, sym, ap, ◌∙◌, subst}
 use Rattle.lua_value.specs.declared.value.Value.{Value}
-use Rattle.lua_model.specs.Heap.{empty}
 use Rattle.lua_code.specs.declared.op.Op.{Op}
 use Rattle.lua_code.specs.Valid.{IsValid}
 use Rattle.lua_steps.specs.Machine.{Code, Closure, Machine, On}
-use Rattle.lua_steps.specs.Exec.{op_at, perform_at, exec, opening}
+use Rattle.lua_steps.specs.Exec.{op_at, perform_at, exec}
 use Rattle.lua_steps.specs.Measure.{total, rank, MeasureFalls}
 use Rattle.lua_follow.specs.Follows.{NarrowAt}
 use Rattle.lua_machine.specs.declared.pace.Pace.{Pace}

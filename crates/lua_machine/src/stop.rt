@@ -30,7 +30,7 @@ pub enum Went {
     /// The next operation.
     On,
     Off(Stop),
-    /// No compiled code comes here.
+    /// There is nothing that it does: code that serves a chunk comes here only where a function is called that nothing made.
     Stuck,
 }
 
@@ -39,7 +39,7 @@ pub enum Went {
 pub enum GoError {
     #[error("out of memory")]
     Memory,
-    /// The code comes to an operation that it cannot do, which no compiled code does.
+    /// The code comes to an operation that it cannot do. Code that serves a chunk does so only where a function is called that nothing made.
     #[error("the code is stuck")]
     Stuck,
     /// It failed before.

@@ -15,7 +15,7 @@ use lua_heap::Heap;
 use lua_steps::law_measure_falls;
 use lua_value::Value;
 
-/// Quick operations of the frame at a depth, if its slots are there, as they are in every run of compiled code.
+/// Quick operations of the frame at a depth, if the row has its slots.
 #[inline(always)]
 fn hurry(
     code: &[Function],

@@ -1,13 +1,12 @@
 use Rattle.std.proofs.Common.{◌≡◌, ℕ, ◌+◌, ◌-◌, ◌∷◌, length, Some, List, sym, ap, ◌∙◌, subst, arith}
 use Rattle.std.specs.Prelude.{slice_get}
-use Rattle.lua_value.specs.declared.value.Value.{Value}
 use Rattle.lua_value.specs.declared.value.Value.TheVariants as value
 use Rattle.lua_value.specs.Lists.{value_at}
 use Rattle.lua_code.specs.declared.function.Shape.{Shape}
 use Rattle.lua_steps.specs.Machine as steps
 use Rattle.lua_steps.specs.Moves.{slot}
 use Rattle.lua_steps.specs.Calls.{waiting}
-use Rattle.lua_machine.specs.Stack.{Stacked, plain, stacked}
+use Rattle.lua_machine.specs.Stack.{plain, stacked}
 use Rattle.lua_machine.specs.Stretch.{at_work}
 use Rattle.lua_machine.specs.Passes.{Fits}
 use Rattle.lua_machine.proofs.StackLemmas.{at_any}

@@ -1,4 +1,4 @@
-use Rattle.std.proofs.Common.{ap, ◌∙◌, sym}
+use Rattle.std.proofs.Common.{ap, ◌∙◌}
 use Rattle.lua_steps.specs.Machine.{Frame}
 use Rattle.lua_machine.proofs.StackLemmas.{at_any}
 use Rattle.lua_machine.proofs.StretchLemmas.{stretched_led}

@@ -1,8 +1,8 @@
-use Rattle.std.proofs.Common.{◌≡◌, ℕ, ◌<◌, List, length, drop, sym, ap, ◌∙◌, subst}
+use Rattle.std.proofs.Common.{ℕ, ◌<◌, List, length, drop, sym, ap, ◌∙◌, subst}
 use Rattle.std.specs.Prelude.{slice_set}
 use Rattle.std.proofs.lemmas.List.{length-set}
 use Rattle.lua_steps.specs.Machine.{Frame}
-use Rattle.lua_machine.specs.Stack.{Stacked, stacked, under}
+use Rattle.lua_machine.specs.Stack.{stacked, under}
 use Rattle.lua_machine.specs.Wants.{wanted_of}
 use Rattle.lua_machine.proofs.StackLemmas.{stacked_set, at_any}
 use Rattle.lua_machine.proofs.QuickLemmas.{taken_all}
