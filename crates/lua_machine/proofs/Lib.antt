@@ -8,3 +8,5 @@ pub mod InPlaceLemmas
 pub mod QuickLemmas
 pub mod FollowLemmas
 pub mod StretchLemmas
+pub mod NestLemmas
+pub mod SettleLemmas

@@ -184,6 +184,9 @@ pub none_more : (o : Option Pace) (row after : List Value) (h : Contents) → If
 none_more None row after h e = (e, refl)
 none_more (Some p) row after h e = tt
 
+pub held_at : (o : Option Pace) (p : Pace) (P : Pace → Type 0) → o ≡ Some p → IfSome o P → P p
+held_at o p P is h = subst (λ (x : Option Pace). IfSome x P) is h
+
 -- ---- an operation that touches no cell
 pub lifts : (o : Op) (own ups : List ℕ) (row after cells : List Value) (pace p : Pace) → OnSlots o row pace after p → Quick o own ups row cells pace after cells p
 lifts o own ups row after cells pace p h = record { is = λ code f before m. h.is code (around f own ups before m) cells; narrow = h.narrow }

@@ -114,6 +114,9 @@ fallen : (n : ℕ) (code : Code) (a b : Machine) → MeasureFalls → IsValid co
 fallen zero code a b falls valid e = let same : a ≡ b = cc in subst (λ (m : Machine). rank (total code) m ≤ rank (total code) a) same (le_self (rank (total code) a))
 fallen (suc n) code a b falls valid e = fall_by n code a b (exec code a) falls valid refl (λ (u : Machine). fallen n code u b falls valid) e
 
+pub runs_reach : (code : Code) (a b : Machine) → MeasureFalls → IsValid code → Runs code a (On b) → rank (total code) b ≤ rank (total code) a
+runs_reach code a b falls valid r = fallen r.count code a b falls valid r.is
+
 pub runs_fall : (code : Code) (a b c : Machine) → MeasureFalls → IsValid code → Runs code a (On b) → exec code b ≡ On c → rank (total code) c < rank (total code) a
 runs_fall code a b c falls valid r e =
     let le : rank (total code) b ≤ rank (total code) a = fallen r.count code a b falls valid r.is in

@@ -32,7 +32,7 @@ stretched_join code cs s t u row cells mid held after later start pace then_at p
   is = λ m same. runs_join code (at_work s row cells start m) (at_work t mid held pace m) (On (at_work u after later then_at m)) (p.is m same) (q.is m same);
 }
 
-gone : (code : Code) (cs : List Closure) (s t : Stacked) (row cells after : List Value) (pace then_at : Pace) (o : Op) → op_at code s.top.function pace.at ≡ Some o → Goes code cs o s row pace t after then_at → (m : Machine)
+pub gone : (code : Code) (cs : List Closure) (s t : Stacked) (row cells after : List Value) (pace then_at : Pace) (o : Op) → op_at code s.top.function pace.at ≡ Some o → Goes code cs o s row pace t after then_at → (m : Machine)
     → m.closures ≡ cs → exec code (at_work s row cells pace m) ≡ On (at_work t after cells then_at m)
 gone code cs s t row cells after pace then_at o is goes m same = ap (λ (x : Option Op). perform_at x code (at_work s row cells pace m)) is ∙ goes.is m cells same
 

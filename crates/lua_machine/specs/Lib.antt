@@ -7,3 +7,5 @@ pub mod Follows
 pub mod Passes
 pub mod Quick
 pub mod Stretch
+pub mod Nests
+pub mod Settle

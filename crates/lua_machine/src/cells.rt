@@ -7,8 +7,10 @@ ghost use Rattle.lua_steps.specs.Machine as steps;
 ghost use Rattle.lua_steps.specs.Moves.{next, gives, slot};
 ghost use Rattle.lua_steps.specs.Exec.{cell_of, new_cell, captured, taken, closed, close_cell, captures_of, constant_value, constant_at};
 ghost use Rattle.lua_heap.specs.Contents.{cell_written};
+ghost use Rattle.lua_machine.specs.Nests.{cells_under, own_in, ups_in};
 ghost use Rattle.lua_machine.specs.Views.{says, IsClosed};
 
+use crate::call_info::Owner;
 use crate::frame::Frame;
 use crate::state::State;
 use crate::stop::{Stop, Went};
@@ -29,20 +31,37 @@ pub fn cell_of(cells: &[u64], i: u16) -> u64
     }
 }
 
-/// One of a frame's own cells.
+/// The cells of a closure; none where the heap gave none.
 #[inline(always)]
-pub fn own_of(frame: &Frame, i: u16) -> u64
-    ensures { result ≡ cell_of frame.now.cells i }
+pub fn closure_cells(heap: &Heap, closure: u64) -> &[u64]
+    ensures { result.now ≡ cells_under heap.now.closures closure }
 {
-    cell_of(frame.own_cells(), i)
+    match heap.closure_at(closure) {
+        Some(closure) => closure.cells(),
+        None => &[],
+    }
 }
 
-/// One of the cells of a frame's closure.
+/// One of the cells of a body's captured locals.
 #[inline(always)]
-pub fn up_of(frame: &Frame, i: u16) -> u64
-    ensures { result ≡ cell_of frame.now.ups i }
+pub fn own_of(owner: Owner, i: u16) -> u64
+    ensures { result ≡ cell_of (own_in owner.entry) i }
 {
-    cell_of(frame.up_cells(), i)
+    match owner {
+        Owner::Frame(frame) => cell_of(frame.own_cells(), i),
+        Owner::Closure(_) => 0,
+    }
+}
+
+/// One of the cells of a body's closure.
+#[inline(always)]
+pub fn up_of(heap: &Heap, owner: Owner, i: u16) -> u64
+    ensures { result ≡ cell_of (ups_in owner.entry heap.now.closures) i }
+{
+    match owner {
+        Owner::Frame(frame) => cell_of(frame.up_cells(), i),
+        Owner::Closure(closure) => cell_of(closure_cells(heap, closure), i),
+    }
 }
 
 /// The value of a cell, and nil where the heap gave none.

@@ -2,8 +2,10 @@ ghost use Rattle.std.specs.Prelude.{◌≡◌, [], ◌∷◌, ◌<◌, IfOk, OnO
 ghost use Rattle.lua_steps.specs.Moves.{at_next};
 ghost use Rattle.lua_steps.specs.Calls.{waiting};
 ghost use Rattle.lua_machine.specs.Wants.{wanted_of};
+ghost use Rattle.lua_machine.specs.Nests.{frame_of};
 ghost use Rattle.lua_machine.specs.Stack.{plain};
 
+use crate::call_info::CallInfo;
 use lua_value::Values;
 use sk_types::NoMemory;
 use std::alloc::Global;
@@ -185,6 +187,27 @@ impl Frame {
             wants: Wanted::OnTop,
         };
         frame.reopen(function, ups, cells, base)?;
+        Ok(frame)
+    }
+
+    /// A dead frame stands for an inner call, whose closure has these cells.
+    #[inline(always)]
+    pub fn take(&mut self, call: CallInfo, ups: &[u64]) -> Result<(), NoMemory>
+        ensures { OnOk result (self.new ≡ record (frame_of [] call) { ups = ups.now }) }
+    {
+        self.reopen(call.function, ups, 0, call.base)?;
+        self.at = call.at;
+        self.wants = call.wants;
+        Ok(())
+    }
+
+    /// A new frame for such a call.
+    pub fn of_call(alloc: Global, call: CallInfo, ups: &[u64]) -> Result<Frame, NoMemory>
+        ensures { IfOk result (λ frame. frame ≡ record (frame_of [] call) { ups = ups.now }) }
+    {
+        let mut frame = Frame::open(alloc, call.function, ups, 0, call.base)?;
+        frame.at = call.at;
+        frame.wants = call.wants;
         Ok(frame)
     }
 }

@@ -1,12 +1,15 @@
 //! The machine that runs compiled Lua: it does what each operation says, up to the end of the thread, a limit, or a call of the host.
 #![tactic(auto)]
 
+mod call_info;
 mod calls;
 mod cells;
 mod frame;
+mod inner;
 mod lists;
 mod loops;
 mod machine;
+mod nest;
 mod pace;
 mod pass;
 mod perform;

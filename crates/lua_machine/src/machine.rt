@@ -86,6 +86,7 @@ impl Machine {
             heap,
             row: Vec::new(alloc),
             stack: CallStack::new(alloc, fresh(alloc, called)?)?,
+            calls: Vec::new(alloc),
             left: budget,
         };
         Ok(Machine {

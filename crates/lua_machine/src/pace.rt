@@ -1,3 +1,6 @@
+ghost use Rattle.std.specs.Prelude.{◌≡◌};
+ghost use Rattle.lua_machine.specs.Quick.{next_of, pass_of};
+
 use lua_code::Op;
 
 /// Where a run of quick operations stands: the operation that comes next, and the ticks that are left.
@@ -7,16 +10,68 @@ pub struct Pace {
     pub left: u64,
 }
 
+/// A call or a return that a run of quick operations came to.
+#[derive(Clone, Copy)]
+pub enum Pass {
+    Call { base: u16, args: u16, results: u16 },
+    Return { from: u16, count: u16 },
+    /// It came to another operation, or to one that comes to a stop.
+    Neither,
+}
+
 /// Where a run of quick operations came to: the operation there is not quick, or comes to a stop.
 #[derive(Clone, Copy)]
 pub struct Reached {
     pub pace: Pace,
     pub op: Op,
+    pub pass: Pass,
 }
 
-/// Where a stretch of quick operations, calls and returns came to: the depth of the frame that runs, and its pace.
+/// What comes of an operation.
+#[derive(Clone, Copy)]
+pub enum Tried {
+    /// It is quick. If it comes to no stop, it leads to this pace.
+    Quick(Option<Pace>),
+    /// It is not.
+    Slow(Pass),
+}
+
+/// Where a stretch of quick operations, calls and returns came to: the depth of the frame that runs, or that waits for the first of so many
+/// inner calls, whose last one runs; and the pace.
 #[derive(Clone, Copy)]
 pub struct Halt {
     pub depth: usize,
+    pub inner: usize,
     pub pace: Pace,
+}
+
+/// What is left after a stretch: so many inner calls run over the frames, and so many ticks.
+#[derive(Clone, Copy)]
+pub struct Hurry {
+    pub inner: usize,
+    pub left: u64,
+}
+
+impl Tried {
+    /// The pace that it leads to, if it is quick and comes to no stop.
+    #[inline(always)]
+    pub fn next(self) -> Option<Pace>
+        ensures { result ≡ next_of self }
+    {
+        match self {
+            Tried::Quick(next) => next,
+            Tried::Slow(_) => None,
+        }
+    }
+
+    /// The call or return that it is.
+    #[inline(always)]
+    pub fn pass(self) -> Pass
+        ensures { result ≡ pass_of self }
+    {
+        match self {
+            Tried::Quick(_) => Pass::Neither,
+            Tried::Slow(pass) => pass,
+        }
+    }
 }

@@ -1,25 +1,30 @@
 //! Calls and returns that take nothing new: the arguments and the results stay in the row, and a dead frame serves.
 
-ghost use Rattle.std.specs.Prelude.{◌≡◌, ◌+◌, ◌<◌, length, IfSome, IfNone, slice_get, option_copied};
+ghost use Rattle.std.specs.Prelude.{◌≡◌, ◌+◌, ◌<◌, ◌≤◌, length, IfSome, IfNone, Some, slice_get, option_copied};
+ghost use Rattle.lua_code.specs.Valid.{IsValid};
 ghost use Rattle.lua_code.specs.declared.op.Op.TheVariants as op;
-ghost use Rattle.lua_value.specs.Lists.{value_at};
-ghost use Rattle.lua_steps.specs.Moves.{values_from};
+ghost use Rattle.lua_steps.specs.Exec.{op_at};
+ghost use Rattle.lua_machine.specs.Nests.{over, Advanced};
 ghost use Rattle.lua_machine.specs.Passes.{FitsIf};
+ghost use Rattle.lua_machine.specs.Quick.{IsPass};
 ghost use Rattle.lua_machine.specs.Stack.{plain, stacked};
 ghost use Rattle.lua_machine.specs.Stretch.{Enters, Goes};
 ghost use Rattle.lua_machine.specs.Wants.{wanted_of};
 
+use crate::call_info::CallInfo;
 use crate::calls::room;
 use crate::frame::{Frame, Wanted};
-use crate::pace::{Halt, Pace, Reached};
-use crate::state::{put_at, value_at};
-use lua_code::{Function, Op, Shape};
+use crate::inner::run_inner;
+use crate::nest::hand_over;
+use crate::pace::{Halt, Pace, Pass, Reached};
+use crate::state::value_at;
+use lua_code::{Function, Shape};
 use lua_heap::{Closure, Heap};
 use lua_value::Value;
 
 /// Whether a body can begin with so many arguments at a place of the row, which is so long, and so many ticks.
 #[inline(always)]
-fn fits(shape: Shape, args: u16, place: u32, long: usize, left: u64) -> bool
+pub fn fits(shape: Shape, args: u16, place: u32, long: usize, left: u64) -> bool
     ensures { FitsIf result shape args place long left }
 {
     if shape.has_dots {
@@ -120,18 +125,47 @@ fn pass_call(
     })
 }
 
-/// The first of so many values from a place of the row on.
+/// A call of a closure, in an inner call where that will do, and else in a dead frame.
 #[inline(always)]
-fn first_from(row: &[Value], place: usize, count: u16) -> Value
-    ensures { result ≡ value_at (values_from row.now place count) 0 }
+fn pass_any_call(
+    code: &[Function],
+    frames: &mut [Frame],
+    depth: usize,
+    calls: &mut [CallInfo],
+    row: &mut [Value],
+    heap: &mut Heap,
+    base: u16,
+    args: u16,
+    results: u16,
+    pace: Pace,
+) -> Option<Halt>
+    requires valid { IsValid code.now }
+    requires within { depth < length frames.old }
+    requires place { pace.at < usize.MAX }
+    requires op { op_at code.now (stacked frames.old depth).top.function pace.at ≡ Some (op.Call base args results) }
+    ensures advanced { IfSome result (λ h. Advanced code.now heap.old.closures (stacked frames.old depth) row.old heap.old.cells pace (over heap.old.closures calls.new h.inner (stacked frames.new h.depth)) row.new heap.new.cells h.pace) }
+    ensures depth { IfSome result (λ h. h.depth < length frames.new) }
+    ensures inner { IfSome result (λ h. h.inner ≤ length calls.new) }
+    ensures heap { heap.new ≡ record heap.old { cells = heap.new.cells } }
+    ensures none { IfNone result ((stacked frames.new depth ≡ stacked frames.old depth) × (row.new ≡ row.old) × (heap.new ≡ heap.old)) }
 {
-    if count == 0 {
-        return Value::Nil;
+    let inner = run_inner(
+        code, frames, depth, calls, row, heap, base, args, results, pace,
+    );
+    if let Some(halt) = inner {
+        return Some(halt);
     }
-    value_at(row, place)
+    let Some(pace) = pass_call(code, frames, depth, row, heap, base, args, results, pace) else {
+        return None;
+    };
+    Some(Halt {
+        depth: depth + 1,
+        inner: 0,
+        pace,
+    })
 }
 
-/// A return to a frame that wants at most one value in its slots.
+/// A return from one frame to another.
 #[inline(always)]
 fn pass_return(
     _code: &[Function],
@@ -146,25 +180,21 @@ fn pass_return(
     requires within { depth < length frames.now }
     ensures goes { IfSome result (λ h. Goes _code.now _heap.now.closures (op.Return from count) (stacked frames.now depth) row.old pace (stacked frames.now h.depth) row.new h.pace) }
     ensures depth { IfSome result (λ h. h.depth < length frames.now) }
+    ensures inner { IfSome result (λ h. h.inner ≡ 0) }
     ensures none { IfNone result (row.new ≡ row.old) }
 {
     if depth == 0 {
         return None;
     }
     let caller = &frames[depth - 1];
-    let Wanted::InSlots { to, count: wanted } = caller.wants else {
+    let top = &frames[depth];
+    let place = top.base as usize + from as usize;
+    if !hand_over(row, caller.wants, caller.base, place, count) {
         return None;
-    };
-    if wanted > 1 {
-        return None;
-    }
-    if wanted == 1 {
-        let top = &frames[depth];
-        let value = first_from(row, top.base as usize + from as usize, count);
-        put_at(row, caller.base as usize + to as usize, value);
     }
     Some(Halt {
         depth: depth - 1,
+        inner: 0,
         pace: Pace {
             at: caller.at,
             left: pace.left,
@@ -172,50 +202,40 @@ fn pass_return(
     })
 }
 
-/// The operation that was reached, where it is such a call or return.
+/// The operation that was reached, where it is such a call or return, and what inner calls it leads to.
 #[inline(always)]
 pub fn pass(
     code: &[Function],
     frames: &mut [Frame],
     depth: usize,
+    calls: &mut [CallInfo],
     row: &mut [Value],
-    heap: &Heap,
+    heap: &mut Heap,
     reached: Reached,
 ) -> Option<Halt>
+    requires valid { IsValid code.now }
     requires within { depth < length frames.old }
     requires place { reached.pace.at < usize.MAX }
-    ensures goes { IfSome result (λ h. Goes code.now heap.now.closures reached.op (stacked frames.old depth) row.old reached.pace (stacked frames.new h.depth) row.new h.pace) }
+    requires op { op_at code.now (stacked frames.old depth).top.function reached.pace.at ≡ Some reached.op }
+    requires pass { IsPass reached.pass reached.op }
+    ensures advanced { IfSome result (λ h. Advanced code.now heap.old.closures (stacked frames.old depth) row.old heap.old.cells reached.pace (over heap.old.closures calls.new h.inner (stacked frames.new h.depth)) row.new heap.new.cells h.pace) }
     ensures depth { IfSome result (λ h. h.depth < length frames.new) }
-    ensures none { IfNone result ((stacked frames.new depth ≡ stacked frames.old depth) × (row.new ≡ row.old)) }
+    ensures inner { IfSome result (λ h. h.inner ≤ length calls.new) }
+    ensures heap { heap.new ≡ record heap.old { cells = heap.new.cells } }
+    ensures none { IfNone result ((stacked frames.new depth ≡ stacked frames.old depth) × (row.new ≡ row.old) × (heap.new ≡ heap.old)) }
 {
-    match reached.op {
-        Op::Call {
+    let pace = reached.pace;
+    match reached.pass {
+        Pass::Call {
             base,
             args,
             results,
-        } => {
-            let pace = pass_call(
-                code,
-                frames,
-                depth,
-                row,
-                heap,
-                base,
-                args,
-                results,
-                reached.pace,
-            );
-            let Some(pace) = pace else {
-                return None;
-            };
-            Some(Halt {
-                depth: depth + 1,
-                pace,
-            })
-        }
-        Op::Return { from, count } => {
-            pass_return(code, frames, depth, row, heap, from, count, reached.pace)
-        }
-        _ => None,
+        } => pass_any_call(
+            code, frames, depth, calls, row, heap, base, args, results, pace,
+        ),
+        Pass::Return { from, count } => pass_return(
+            code, frames, depth, row, heap, from, count, pace,
+        ),
+        Pass::Neither => None,
     }
 }

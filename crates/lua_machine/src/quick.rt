@@ -7,11 +7,12 @@ ghost use Rattle.lua_model.specs.declared.operator.Binary.TheVariants as binary_
 ghost use Rattle.lua_code.specs.declared.op.Op.TheVariants as op;
 ghost use Rattle.lua_code.specs.Valid.{IsValid};
 ghost use Rattle.lua_steps.specs.Exec.{cell_of};
-ghost use Rattle.lua_machine.specs.Quick.{Quick, OnSlots, Within, Near, IsGiven, IsOfSlots, IsOfInt, IsTestOfSlots, IsTestOfInt, Turns, Gives, Ran, Led};
+ghost use Rattle.lua_machine.specs.Nests.{own_in, ups_in};
+ghost use Rattle.lua_machine.specs.Quick.{Quick, OnSlots, Within, Near, IsGiven, IsOfSlots, IsOfInt, IsTestOfSlots, IsTestOfInt, Turns, Gives, Ran, Led, IsPass, next_of, pass_of};
 
-use crate::cells::{own_of, put_in_cell, up_of};
-use crate::frame::Frame;
-use crate::pace::{Pace, Reached};
+use crate::call_info::Owner;
+use crate::cells::{closure_cells, own_of, put_in_cell, up_of};
+use crate::pace::{Pace, Pass, Reached, Tried};
 use crate::slots::{
     after, chooses, computed, gives, long, pays, put_turn, short, slot, slot_after, tiny,
 };
@@ -326,31 +327,77 @@ fn reads(row: &mut [Value], heap: &Heap, cells: &[u64], to: u16, i: u16, pace: P
     Some(gives(row, to, value, pace))
 }
 
-/// One operation, if it is quick and comes to no stop. Of the heap it touches the cells alone. There are so many operations.
+/// The value of one of the cells of a body's captured locals goes to a slot.
+#[inline(always)]
+fn reads_own(
+    row: &mut [Value],
+    heap: &Heap,
+    owner: Owner,
+    to: u16,
+    i: u16,
+    pace: Pace,
+) -> Option<Pace>
+    requires slot { to < length row.old }
+    requires place { pace.at < usize.MAX }
+    ensures ok { IfSome result (λ p. Gives row.old pace to (value_at heap.now.cells (cell_of (own_in owner.entry) i)) row.new p) }
+    ensures place { IfSome result (λ p. p.at ≡ pace.at + 1) }
+    ensures none { IfNone result (row.new ≡ row.old) }
+{
+    match owner {
+        Owner::Frame(frame) => reads(row, heap, frame.own_cells(), to, i, pace),
+        Owner::Closure(_) => None,
+    }
+}
+
+/// The value of one of the cells of a body's closure goes to a slot.
+#[inline(always)]
+fn reads_up(
+    row: &mut [Value],
+    heap: &Heap,
+    owner: Owner,
+    to: u16,
+    i: u16,
+    pace: Pace,
+) -> Option<Pace>
+    requires slot { to < length row.old }
+    requires place { pace.at < usize.MAX }
+    ensures ok { IfSome result (λ p. Gives row.old pace to (value_at heap.now.cells (cell_of (ups_in owner.entry heap.now.closures) i)) row.new p) }
+    ensures place { IfSome result (λ p. p.at ≡ pace.at + 1) }
+    ensures none { IfNone result (row.new ≡ row.old) }
+{
+    match owner {
+        Owner::Frame(frame) => reads(row, heap, frame.up_cells(), to, i, pace),
+        Owner::Closure(closure) => reads(row, heap, closure_cells(heap, closure), to, i, pace),
+    }
+}
+
+/// One operation, if it is quick and comes to no stop. Of the heap it touches the cells alone. There are so many operations. `INNER` tells
+/// the copy for inner calls from that for frames, so that both are put in line.
 #[tactic(auto, using(crate::proofs::QuickLemmas::lifts, crate::proofs::QuickLemmas::lifts_some, crate::proofs::QuickLemmas::none_more))]
 #[inline(always)]
-fn quick(
+fn quick<const INNER: bool>(
     op: &Op,
     row: &mut [Value],
     heap: &mut Heap,
-    frame: &Frame,
+    owner: Owner,
     pace: Pace,
     _count: usize,
-) -> Option<Pace>
+) -> Tried
     requires within { Within (length row.old) op.now }
     requires near { Near _count pace.at op.now }
     requires place { pace.at < _count }
-    ensures ok { IfSome result (λ p. Quick op.now frame.now.cells frame.now.ups row.old heap.old.cells pace row.new heap.new.cells p) }
-    ensures place { IfSome result (λ p. p.at < _count) }
-    ensures none { IfNone result ((row.new ≡ row.old) × (heap.new ≡ heap.old)) }
+    ensures ok { IfSome (next_of result) (λ p. Quick op.now (own_in owner.entry) (ups_in owner.entry heap.old.closures) row.old heap.old.cells pace row.new heap.new.cells p) }
+    ensures place { IfSome (next_of result) (λ p. p.at < _count) }
+    ensures none { IfNone (next_of result) ((row.new ≡ row.old) × (heap.new ≡ heap.old)) }
+    ensures pass { IsPass (pass_of result) op.now }
     ensures heap { heap.new ≡ record heap.old { cells = heap.new.cells } }
 {
     match *op {
-        Op::Nil { to } => Some(given(*op, row, to, Value::Nil, pace)),
-        Op::Bool { to, value } => Some(given(*op, row, to, Value::Bool(value), pace)),
-        Op::Int { to, value } => Some(constant(*op, row, to, value, pace)),
-        Op::Move { to, from } => Some(moves(*op, row, to, from, pace)),
-        Op::Add { to, left, right } => of_slots(
+        Op::Nil { to } => Tried::Quick(Some(given(*op, row, to, Value::Nil, pace))),
+        Op::Bool { to, value } => Tried::Quick(Some(given(*op, row, to, Value::Bool(value), pace))),
+        Op::Int { to, value } => Tried::Quick(Some(constant(*op, row, to, value, pace))),
+        Op::Move { to, from } => Tried::Quick(Some(moves(*op, row, to, from, pace))),
+        Op::Add { to, left, right } => Tried::Quick(of_slots(
             *op,
             Binary::Add,
             row,
@@ -358,8 +405,8 @@ fn quick(
             u16::from(left),
             u16::from(right),
             pace,
-        ),
-        Op::Sub { to, left, right } => of_slots(
+        )),
+        Op::Sub { to, left, right } => Tried::Quick(of_slots(
             *op,
             Binary::Sub,
             row,
@@ -367,8 +414,8 @@ fn quick(
             u16::from(left),
             u16::from(right),
             pace,
-        ),
-        Op::Mul { to, left, right } => of_slots(
+        )),
+        Op::Mul { to, left, right } => Tried::Quick(of_slots(
             *op,
             Binary::Mul,
             row,
@@ -376,8 +423,8 @@ fn quick(
             u16::from(left),
             u16::from(right),
             pace,
-        ),
-        Op::AddInt { to, left, value } => of_int(
+        )),
+        Op::AddInt { to, left, value } => Tried::Quick(of_int(
             *op,
             Binary::Add,
             row,
@@ -385,8 +432,8 @@ fn quick(
             u16::from(left),
             value,
             pace,
-        ),
-        Op::MulInt { to, left, value } => of_int(
+        )),
+        Op::MulInt { to, left, value } => Tried::Quick(of_int(
             *op,
             Binary::Mul,
             row,
@@ -394,39 +441,65 @@ fn quick(
             u16::from(left),
             value,
             pace,
-        ),
+        )),
         Op::Binary {
             op: o,
             to,
             left,
             right,
-        } => of_slots(*op, o, row, to, left, right, pace),
+        } => Tried::Quick(of_slots(*op, o, row, to, left, right, pace)),
+        Op::BinaryInt {
+            op: Binary::Sub,
+            to,
+            left,
+            value,
+        } => Tried::Quick(of_int(
+            *op,
+            Binary::Sub,
+            row,
+            u16::from(to),
+            u16::from(left),
+            value,
+            pace,
+        )),
         Op::BinaryInt {
             op: o,
             to,
             left,
             value,
-        } => of_int(*op, o, row, u16::from(to), u16::from(left), value, pace),
-        Op::Tick { pay } => pays_on(*op, row, pay, pace),
-        Op::Jump { at } => Some(Pace {
+        } => Tried::Quick(of_int(*op, o, row, u16::from(to), u16::from(left), value, pace)),
+        Op::Tick { pay } => Tried::Quick(pays_on(*op, row, pay, pace)),
+        Op::Jump { at } => Tried::Quick(Some(Pace {
             at: at as usize,
             left: pace.left,
-        }),
-        Op::Loop { pay, ref at } => pays_and_jumps(*op, row, pay, at, pace),
-        Op::Test { from, ref at } => tests(*op, row, from, at, pace, _count),
-        Op::TestNot { from, ref at } => Some(tests_not(*op, row, from, at, pace, _count)),
+        })),
+        Op::Loop { pay, ref at } => Tried::Quick(pays_and_jumps(*op, row, pay, at, pace)),
+        Op::Test { from, ref at } => Tried::Quick(tests(*op, row, from, at, pace, _count)),
+        Op::TestNot { from, ref at } => Tried::Quick(Some(tests_not(
+            *op, row, from, at, pace, _count,
+        ))),
         Op::UnlessLess {
             left,
             right,
             pay,
             ref at,
-        } => test_of_slots(*op, Binary::Less, row, left, right, pay, at, pace, _count),
+        } => Tried::Quick(test_of_slots(
+            *op,
+            Binary::Less,
+            row,
+            left,
+            right,
+            pay,
+            at,
+            pace,
+            _count,
+        )),
         Op::UnlessLessEqual {
             left,
             right,
             pay,
             ref at,
-        } => test_of_slots(
+        } => Tried::Quick(test_of_slots(
             *op,
             Binary::LessEqual,
             row,
@@ -436,19 +509,29 @@ fn quick(
             at,
             pace,
             _count,
-        ),
+        )),
         Op::UnlessEqual {
             left,
             right,
             pay,
             ref at,
-        } => test_of_slots(*op, Binary::Equal, row, left, right, pay, at, pace, _count),
+        } => Tried::Quick(test_of_slots(
+            *op,
+            Binary::Equal,
+            row,
+            left,
+            right,
+            pay,
+            at,
+            pace,
+            _count,
+        )),
         Op::UnlessNotEqual {
             left,
             right,
             pay,
             ref at,
-        } => test_of_slots(
+        } => Tried::Quick(test_of_slots(
             *op,
             Binary::NotEqual,
             row,
@@ -458,13 +541,13 @@ fn quick(
             at,
             pace,
             _count,
-        ),
+        )),
         Op::UnlessLessInt {
             left,
             value,
             pay,
             ref at,
-        } => test_of_int(
+        } => Tried::Quick(test_of_int(
             *op,
             Binary::Less,
             row,
@@ -474,13 +557,13 @@ fn quick(
             at,
             pace,
             _count,
-        ),
+        )),
         Op::UnlessLessEqualInt {
             left,
             value,
             pay,
             ref at,
-        } => test_of_int(
+        } => Tried::Quick(test_of_int(
             *op,
             Binary::LessEqual,
             row,
@@ -490,13 +573,13 @@ fn quick(
             at,
             pace,
             _count,
-        ),
+        )),
         Op::UnlessGreaterInt {
             left,
             value,
             pay,
             ref at,
-        } => test_of_int(
+        } => Tried::Quick(test_of_int(
             *op,
             Binary::Greater,
             row,
@@ -506,13 +589,13 @@ fn quick(
             at,
             pace,
             _count,
-        ),
+        )),
         Op::UnlessGreaterEqualInt {
             left,
             value,
             pay,
             ref at,
-        } => test_of_int(
+        } => Tried::Quick(test_of_int(
             *op,
             Binary::GreaterEqual,
             row,
@@ -522,13 +605,13 @@ fn quick(
             at,
             pace,
             _count,
-        ),
+        )),
         Op::UnlessEqualInt {
             left,
             value,
             pay,
             ref at,
-        } => test_of_int(
+        } => Tried::Quick(test_of_int(
             *op,
             Binary::Equal,
             row,
@@ -538,13 +621,13 @@ fn quick(
             at,
             pace,
             _count,
-        ),
+        )),
         Op::UnlessNotEqualInt {
             left,
             value,
             pay,
             ref at,
-        } => test_of_int(
+        } => Tried::Quick(test_of_int(
             *op,
             Binary::NotEqual,
             row,
@@ -554,25 +637,37 @@ fn quick(
             at,
             pace,
             _count,
-        ),
-        Op::ForLoop { pay, base, ref at } => next_turn(row, pay, base, at, pace, _count),
-        Op::GetCell { to, cell } => reads(row, heap, frame.own_cells(), to, cell, pace),
-        Op::GetUp { to, up } => reads(row, heap, frame.up_cells(), to, up, pace),
+        )),
+        Op::ForLoop { pay, base, ref at } => Tried::Quick(next_turn(
+            row, pay, base, at, pace, _count,
+        )),
+        Op::GetCell { to, cell } => Tried::Quick(reads_own(row, heap, owner, to, cell, pace)),
+        Op::GetUp { to, up } => Tried::Quick(reads_up(row, heap, owner, to, up, pace)),
         Op::SetCell { cell, from } => {
-            put_in_cell(heap, own_of(frame, cell), slot(row, from));
-            Some(Pace {
+            put_in_cell(heap, own_of(owner, cell), slot(row, from));
+            Tried::Quick(Some(Pace {
                 at: pace.at + 1,
                 left: pace.left,
-            })
+            }))
         }
         Op::SetUp { up, from } => {
-            put_in_cell(heap, up_of(frame, up), slot(row, from));
-            Some(Pace {
+            put_in_cell(heap, up_of(heap, owner, up), slot(row, from));
+            Tried::Quick(Some(Pace {
                 at: pace.at + 1,
                 left: pace.left,
-            })
+            }))
         }
-        _ => None,
+        Op::Call {
+            base,
+            args,
+            results,
+        } => Tried::Slow(Pass::Call {
+            base,
+            args,
+            results,
+        }),
+        Op::Return { from, count } => Tried::Slow(Pass::Return { from, count }),
+        _ => Tried::Slow(Pass::Neither),
     }
 }
 
@@ -587,21 +682,22 @@ fn fetch(ops: &[Op], at: usize) -> &Op
 
 /// Quick operations of a function, up to one that is not or that comes to a stop. The row begins with the frame's slots.
 #[inline(always)]
-pub fn block(
+pub fn block<const INNER: bool>(
     code: &[Function],
     _function: u64,
     routine: &Function,
     row: &mut [Value],
     heap: &mut Heap,
-    frame: &Frame,
+    owner: Owner,
     start: Pace,
 ) -> Reached
     requires valid { IsValid code.now }
     requires routine { slice_get code.now _function ≡ Some routine.now }
     requires slots { routine.now.shape.slots ≤ length row.old }
     requires place { start.at < length routine.now.ops }
-    ensures ran { Ran code.now _function frame.now.cells frame.now.ups row.old heap.old.cells start row.new heap.new.cells result.pace }
+    ensures ran { Ran code.now _function (own_in owner.entry) (ups_in owner.entry heap.old.closures) row.old heap.old.cells start row.new heap.new.cells result.pace }
     ensures op { slice_get routine.now.ops result.pace.at ≡ Some result.op }
+    ensures pass { IsPass result.pass result.op }
     ensures place { result.pace.at < usize.MAX }
     ensures heap { heap.new ≡ record heap.old { cells = heap.new.cells } }
 {
@@ -610,8 +706,13 @@ pub fn block(
     let mut pace = start;
     'quick: loop {
         let op = fetch(ops, pace.at);
-        let Some(next) = quick(op, row, heap, frame, pace, ops.len()) else {
-            return Reached { pace, op: *op };
+        let tried = quick::<INNER>(op, row, heap, owner, pace, ops.len());
+        let Some(next) = tried.next() else {
+            return Reached {
+                pace,
+                op: *op,
+                pass: tried.pass(),
+            };
         };
         pace = next;
     }
@@ -619,25 +720,26 @@ pub fn block(
 
 /// The same in a whole row, in which the frame's slots begin at `base`.
 #[inline(always)]
-pub fn block_at(
+pub fn block_at<const INNER: bool>(
     code: &[Function],
     _function: u64,
     routine: &Function,
     row: &mut [Value],
     base: usize,
     heap: &mut Heap,
-    frame: &Frame,
+    owner: Owner,
     start: Pace,
 ) -> Reached
     requires valid { IsValid code.now }
     requires routine { slice_get code.now _function ≡ Some routine.now }
     requires slots { base + routine.now.shape.slots ≤ length row.old }
     requires place { start.at < length routine.now.ops }
-    ensures led { Led code.now _function frame.now.cells frame.now.ups base row.old heap.old.cells start row.new heap.new.cells result.pace }
+    ensures led { Led code.now _function (own_in owner.entry) (ups_in owner.entry heap.old.closures) base row.old heap.old.cells start row.new heap.new.cells result.pace }
     ensures op { slice_get routine.now.ops result.pace.at ≡ Some result.op }
+    ensures pass { IsPass result.pass result.op }
     ensures place { result.pace.at < usize.MAX }
     ensures heap { heap.new ≡ record heap.old { cells = heap.new.cells } }
 {
     let (_before, slots) = row.split_at_mut(base);
-    block(code, _function, routine, slots, heap, frame, start)
+    block::<INNER>(code, _function, routine, slots, heap, owner, start)
 }

@@ -1,4 +1,4 @@
-ghost use Rattle.std.specs.Prelude.{◌≡◌, ◌<◌, false, slice_get, IfOk, IfErr, OnSome};
+ghost use Rattle.std.specs.Prelude.{◌≡◌, ◌<◌, false, slice_get, IfOk, IfErr, OnOk, OnSome};
 ghost use Rattle.lua_code.specs.Valid.{IsValid};
 ghost use Rattle.lua_steps.specs.Machine as steps;
 ghost use Rattle.lua_steps.specs.Calls.{given};
@@ -7,6 +7,7 @@ ghost use Rattle.lua_follow.specs.Follows.{NarrowAt};
 ghost use Rattle.lua_machine.specs.Runs.{Runs, StuckIf, SpentIf};
 ghost use Rattle.lua_machine.specs.Views.{says, stops};
 
+use crate::call_info::CallInfo;
 use crate::state::State;
 use crate::stop::{GoError, Stop, Went};
 use lua_code::{Function, Op};
@@ -50,14 +51,34 @@ impl State {
         }
     }
 
+    /// There come to be as many places for inner calls as there are frames, so that they grow only with how deep calls go.
+    #[inline(always)]
+    fn make_places(&mut self) -> Result<(), NoMemory>
+        ensures { self.new ≡ self.old }
+    {
+        let count = self.stack.frame_count();
+        if self.calls.len() < count {
+            self.calls.resize(count, CallInfo::NONE)?;
+        }
+        Ok(())
+    }
+
     /// Quick operations, calls and returns, up to an operation that is not quick, or that comes to a stop.
     #[inline(always)]
-    fn hurry(&mut self, code: &[Function])
+    fn hurry(&mut self, code: &[Function]) -> Result<(), NoMemory>
         requires { IsValid code.now }
-        ensures { Runs code.now self.old (steps.On self.new) }
+        ensures { OnOk result (Runs code.now self.old (steps.On self.new)) }
     {
         let row = self.row.as_mut_slice();
-        self.left = self.stack.hurry(code, row, &mut self.heap, self.left);
+        let calls = self.calls.as_mut_slice();
+        let ran = self
+            .stack
+            .hurry(code, calls, row, &mut self.heap, self.left);
+        self.left = ran.left;
+        let calls = self.calls.as_slice();
+        self.stack
+            .settle_inner(self.alloc, &self.heap, calls, ran.inner)?;
+        self.make_places()
     }
 
     /// Runs to the next stop. The values go to the frame that waits for them.
@@ -70,7 +91,7 @@ impl State {
         law_measure_falls();
         self.receive(values)?;
         'operations: loop {
-            self.hurry(code);
+            self.hurry(code)?;
             match self.step(code)? {
                 Went::On => {}
                 Went::Off(stop) => return Ok(stop),

@@ -21,6 +21,15 @@ pub fn slot(row: &[Value], i: u16) -> Value
     row[i as usize]
 }
 
+/// The value at a place of the row.
+#[inline(always)]
+pub fn value_there(row: &[Value], place: usize) -> Value
+    requires { place < length row.now }
+    ensures { result ≡ value_at row.now place }
+{
+    row[place]
+}
+
 /// The slot so many after another.
 #[inline(always)]
 pub fn slot_after(row: &[Value], base: u16, i: usize) -> Value

@@ -1,14 +1,18 @@
-ghost use Rattle.std.specs.Prelude.{◌≡◌, [], ◌∷◌, ◌<◌, IfOk, OnOk, slice_get, option_copied};
+ghost use Rattle.std.specs.Prelude.{◌≡◌, [], ◌∷◌, ◌<◌, ◌≤◌, length, IfOk, OnOk, slice_get, option_copied};
 ghost use Rattle.std.specs.Borrow.{sem};
 ghost use Rattle.lua_code.specs.Valid.{IsValid};
 ghost use Rattle.lua_steps.specs.Calls.{waiting};
 ghost use Rattle.lua_machine.specs.Lends.{LendsTop};
-ghost use Rattle.lua_machine.specs.Stack.{plain, Left, Reentered};
+ghost use Rattle.lua_machine.specs.Nests.{frame_of, over};
+ghost use Rattle.lua_machine.specs.Stack.{stacked, plain, Left, Reentered};
+ghost use Rattle.lua_machine.specs.Settle.{KeepsPlace};
 ghost use Rattle.lua_machine.specs.Stretch.{Hurried};
 ghost use Rattle.lua_machine.specs.Wants.{wanted_of};
 
+use crate::call_info::CallInfo;
+use crate::cells::closure_cells;
 use crate::frame::{Frame, Wanted};
-use crate::pace::Pace;
+use crate::pace::{Halt, Hurry, Pace};
 use crate::pass::enter;
 use crate::stretch::stretch;
 use lua_code::Function;
@@ -34,6 +38,22 @@ impl Model for CallStack {
     ghost view = { λ s. stacked s.frames.items s.depth };
 
     ghost invariant = { λ s. s.depth < vec_len s.frames };
+}
+
+/// The place that a stretch has come to is kept where what runs is: in the last inner call, or in its frame if there is none.
+#[inline(always)]
+fn keep_place(frames: &mut [Frame], calls: &mut [CallInfo], halt: Halt)
+    requires depth { halt.depth < length frames.old }
+    requires inner { halt.inner ≤ length calls.old }
+    ensures { KeepsPlace halt.inner halt.pace.at calls.old (stacked frames.old halt.depth) calls.new (stacked frames.new halt.depth) }
+{
+    if halt.inner == 0 {
+        let top = &mut frames[halt.depth];
+        top.at = halt.pace.at;
+        return;
+    }
+    let last = &mut calls[halt.inner - 1];
+    last.at = halt.pace.at;
 }
 
 impl CallStack {
@@ -99,21 +119,82 @@ impl CallStack {
         true
     }
 
-    /// Runs quick operations, calls and returns over this row and this heap, with so many ticks; answers how many are left.
+    /// Runs quick operations, calls and returns over this row and this heap, with so many ticks; answers how many are left, and how many
+    /// inner calls run over the frames.
     #[inline(always)]
-    pub fn hurry(&mut self, code: &[Function], row: &mut [Value], heap: &mut Heap, left: u64) -> u64
+    pub fn hurry(
+        &mut self,
+        code: &[Function],
+        calls: &mut [CallInfo],
+        row: &mut [Value],
+        heap: &mut Heap,
+        left: u64,
+    ) -> Hurry
         requires { IsValid code.now }
-        ensures ran { Hurried code.now heap.old.closures self.old row.old heap.old.cells left self.new row.new heap.new.cells result }
+        ensures ran { Hurried code.now heap.old.closures self.old row.old heap.old.cells left (over heap.old.closures calls.new result.inner self.new) row.new heap.new.cells result.left }
+        ensures inner { result.inner ≤ length calls.new }
         ensures heap { heap.new ≡ record heap.old { cells = heap.new.cells } }
     {
         let frames = self.frames.as_mut_slice();
         let top = &frames[self.depth];
         let start = Pace { at: top.at, left };
-        let halt = stretch(code, frames, self.depth, row, heap, start);
-        let top = &mut frames[halt.depth];
-        top.at = halt.pace.at;
+        let halt = stretch(code, frames, self.depth, calls, row, heap, start);
+        keep_place(frames, calls, halt);
         self.depth = halt.depth;
-        halt.pace.left
+        Hurry {
+            inner: halt.inner,
+            left: halt.pace.left,
+        }
+    }
+
+    /// An inner call over the frames becomes a frame of its own.
+    fn settle_one(&mut self, alloc: Global, heap: &Heap, call: CallInfo) -> Result<(), NoMemory>
+        ensures { OnOk result (self.new ≡ record { top = frame_of heap.now.closures call; below = self.old.top ∷ self.old.below }) }
+    {
+        let ups = closure_cells(heap, call.closure);
+        let next = self.depth + 1;
+        if next < self.frames.len() {
+            let dead = &mut self.frames[next];
+            dead.take(call, ups)?;
+            self.depth = next;
+            return Ok(());
+        }
+        let frame = Frame::of_call(alloc, call, ups)?;
+        self.enter(frame)
+    }
+
+    /// These inner calls over the frames become frames of their own, so that operations of every kind can go on.
+    pub fn settle(&mut self, alloc: Global, heap: &Heap, calls: &[CallInfo]) -> Result<(), NoMemory>
+        ensures { OnOk result (self.new ≡ over heap.now.closures calls.now (length calls.now) self.old) }
+    {
+        'calls: for call in calls {
+            self.settle_one(alloc, heap, *call)?;
+        }
+        Ok(())
+    }
+
+    /// The first `inner` of these do so. Mostly there are none.
+    #[inline(always)]
+    pub fn settle_inner(
+        &mut self,
+        alloc: Global,
+        heap: &Heap,
+        calls: &[CallInfo],
+        inner: usize,
+    ) -> Result<(), NoMemory>
+        requires { inner ≤ length calls.now }
+        ensures { OnOk result (self.new ≡ over heap.now.closures calls.now inner self.old) }
+    {
+        if inner == 0 {
+            return Ok(());
+        }
+        self.settle(alloc, heap, &calls[..inner])
+    }
+
+    /// How many frames there are, with the dead ones.
+    #[inline(always)]
+    pub fn frame_count(&self) -> usize {
+        self.frames.len()
     }
 
     /// A call of a closure begins in the dead frame after the one that runs, where there is one. The one that ran waits for its values.

@@ -8,6 +8,7 @@ ghost use Rattle.lua_operators.specs.Answers.{told};
 ghost use Rattle.lua_follow.specs.Follows.{Narrow};
 ghost use Rattle.lua_machine.specs.Views.{says, IsMade};
 
+use crate::call_info::CallInfo;
 use crate::stack::CallStack;
 use crate::stop::{Stop, Went};
 use lua_heap::{Heap, HeapFault};
@@ -26,6 +27,8 @@ pub struct State {
     pub heap: Heap,
     pub row: Vec<Value>,
     pub stack: CallStack,
+    /// Places for the inner calls of a stretch; none of them lasts past it.
+    pub calls: Vec<CallInfo>,
     pub left: u64,
 }
 

@@ -403,8 +403,8 @@ fn a_machine_that_failed_is_spent(rt: HostRuntime) -> Result<(), Fail> {
     Ok(())
 }
 
-/// A function that calls itself: the Fibonacci number of its argument.
-fn fibonacci(alloc: Global) -> Result<Function, Fail> {
+/// A function that calls itself: the Fibonacci number of its argument. It has so many cells, and uses none.
+fn fibonacci(alloc: Global, cells: u16) -> Result<Function, Fail> {
     let ops = [
         Op::UnlessLessInt {
             left: 0,
@@ -448,15 +448,14 @@ fn fibonacci(alloc: Global) -> Result<Function, Fail> {
         pay: 1,
         has_dots: false,
         slots: 8,
-        cells: 1,
+        cells,
     });
     called.add_capture(Capture::Cell(0))?;
     Ok(called)
 }
 
-#[test]
-fn calls_stay_in_place(rt: HostRuntime) -> Result<(), Fail> {
-    let alloc = rt.alloc();
+/// local function fib(n) if n < 2 then return n end  return fib(n - 1) + fib(n - 2) end  return fib(10)
+fn tenth(alloc: Global, cells: u16, budget: u64) -> Result<Machine, Fail> {
     let ops = [
         Op::CloseCell {
             cell: 0,
@@ -471,9 +470,126 @@ fn calls_stay_in_place(rt: HostRuntime) -> Result<(), Fail> {
         },
         Op::Return { from: 0, count: 1 },
     ];
-    let code = code(alloc, fibonacci(alloc)?, &ops)?;
-    let mut machine = machine(alloc, code, 10_000, 100)?;
-    assert!(rt; integers(machine.go(Values::new(alloc)), &[55]));
+    machine(
+        alloc,
+        code(alloc, fibonacci(alloc, cells)?, &ops)?,
+        budget,
+        100,
+    )
+}
+
+#[test]
+fn calls_stay_in_place(rt: HostRuntime) -> Result<(), Fail> {
+    let mut machine = tenth(rt.alloc(), 1, 10_000)?;
+    assert!(rt; integers(machine.go(Values::new(rt.alloc())), &[55]));
+    Ok(())
+}
+
+#[test]
+fn calls_need_no_frame(rt: HostRuntime) -> Result<(), Fail> {
+    let mut machine = tenth(rt.alloc(), 0, 10_000)?;
+    assert!(rt; integers(machine.go(Values::new(rt.alloc())), &[55]));
+    Ok(())
+}
+
+/// 177 calls of the function, 89 of which return at once, and one of the chunk.
+#[test]
+fn inner_calls_pay_their_ticks(rt: HostRuntime) -> Result<(), Fail> {
+    let mut enough = tenth(rt.alloc(), 0, 267)?;
+    assert!(rt; integers(enough.go(Values::new(rt.alloc())), &[55]));
+    let mut short = tenth(rt.alloc(), 0, 266)?;
+    let stop = short.go(Values::new(rt.alloc()));
+    assert!(rt; matches!(stop, Ok(Stop::Budget)));
+    Ok(())
+}
+
+/// function g(n, f) if n < 1 then local v = f(42)  return v end  return g(n - 1, f) + 1 end
+fn asks_at_depth(alloc: Global) -> Result<Function, Fail> {
+    let ops = [
+        Op::UnlessLessInt {
+            left: 0,
+            value: 1,
+            pay: 1,
+            at: 5,
+        },
+        Op::Move { to: 2, from: 1 },
+        Op::Int { to: 3, value: 42 },
+        Op::Call {
+            base: 2,
+            args: 1,
+            results: 1,
+        },
+        Op::Return { from: 2, count: 1 },
+        Op::GetUp { to: 2, up: 0 },
+        Op::AddInt {
+            to: 3,
+            left: 0,
+            value: -1,
+        },
+        Op::Move { to: 4, from: 1 },
+        Op::Call {
+            base: 2,
+            args: 2,
+            results: 1,
+        },
+        Op::AddInt {
+            to: 2,
+            left: 2,
+            value: 1,
+        },
+        Op::Return { from: 2, count: 1 },
+    ];
+    let mut called = function(alloc, 2, &ops)?;
+    called.set_shape(Shape {
+        params: 2,
+        pay: 1,
+        has_dots: false,
+        slots: 8,
+        cells: 0,
+    });
+    called.add_capture(Capture::Cell(0))?;
+    Ok(called)
+}
+
+/// local f = ...  local a = g(3, f)  local b = g(3, f)  return a, b
+fn asks_twice(alloc: Global) -> Result<Machine, Fail> {
+    let ops = [
+        Op::CloseCell {
+            cell: 0,
+            function: 1,
+        },
+        Op::DotsTo { to: 0, count: 1 },
+        Op::GetCell { to: 1, cell: 0 },
+        Op::Int { to: 2, value: 3 },
+        Op::Move { to: 3, from: 0 },
+        Op::Call {
+            base: 1,
+            args: 2,
+            results: 1,
+        },
+        Op::GetCell { to: 2, cell: 0 },
+        Op::Int { to: 3, value: 3 },
+        Op::Move { to: 4, from: 0 },
+        Op::Call {
+            base: 2,
+            args: 2,
+            results: 1,
+        },
+        Op::Return { from: 1, count: 2 },
+    ];
+    machine(alloc, code(alloc, asks_at_depth(alloc)?, &ops)?, 100, 100)
+}
+
+#[test]
+fn the_host_is_called_within_inner_calls(rt: HostRuntime) -> Result<(), Fail> {
+    let alloc = rt.alloc();
+    let mut machine = asks_twice(alloc)?;
+    let asked = machine.go(Values::one(alloc, Value::Native(5))?);
+    assert!(rt; is_asked(asked));
+    let asked = machine.go(Values::one(alloc, Value::Int(1))?);
+    assert!(rt; is_asked(asked));
+    let stop = machine.go(Values::one(alloc, Value::Int(10))?);
+    assert!(rt; integers(stop, &[4, 13]));
     Ok(())
 }
 

@@ -8,6 +8,7 @@ use Rattle.lua_machine.proofs.stretch.stretch.Given as goal
 abbrev pub invariant-frames : goal.invariant-frames
 invariant-frames l = record {
   within : l.here.depth < length l.frames;
+  inner : l.here.inner ≡ 0;
   ran : Stretched l.code l.fn.heap.closures (stacked l.fn.frames l.depth) l.fn.row l.fn.heap.cells l.fn.start (stacked l.frames l.here.depth) l.row l.heap.cells l.here.pace;
   heap : l.heap ≡ record l.fn.heap { cells = l.heap.cells };
 }

@@ -1,0 +1,280 @@
+-- Calls and returns of inner calls are those of the frames that they stand for.
+use Rattle.std.proofs.Common.{◌≡◌, ◌≢◌, ◌⊎◌, inl, inr, Bool, true, false, ℕ, zero, suc, ◌+◌, ◌-◌, ◌<◌, ◌≤◌, List, [], ◌∷◌, length, Option, Some, None, IfSome, refl, sym, ap, ◌∙◌, subst, arith}
+use Rattle.std.specs.Prelude.{ltb, slice_set, slice_get}
+use Rattle.std.proofs.lemmas.Bool.{ltb-false, ltb-true}
+use Rattle.std.proofs.lemmas.List.{length-set, get_or-set_same, get_or-set_other}
+use Rattle.lua_value.specs.declared.value.Value.{Value}
+use Rattle.lua_value.specs.declared.value.Value.TheVariants as value
+use Rattle.lua_value.specs.Lists.{value_at}
+use Rattle.lua_code.specs.Routine.{Routine}
+use Rattle.lua_code.specs.Valid.{IsValid}
+use Rattle.lua_code.specs.declared.op.Op.{Op}
+use Rattle.lua_code.specs.declared.op.Op.TheVariants as op
+use Rattle.lua_steps.specs.Machine.{Code, Closure, Frame, InSlots, On}
+use Rattle.lua_steps.specs.Moves.{slot}
+use Rattle.lua_steps.specs.Calls.{waiting}
+use Rattle.lua_steps.specs.Exec.{fresh, op_at}
+use Rattle.lua_steps.specs.Measure.{total, rank, MeasureFalls}
+use Rattle.lua_machine.specs.declared.call_info.CallInfo.{CallInfo}
+use Rattle.lua_machine.specs.declared.frame.Wanted.TheVariants as wanted
+use Rattle.lua_machine.specs.declared.pace.Halt.{Halt}
+use Rattle.lua_machine.specs.declared.pace.Pace.{Pace}
+use Rattle.lua_machine.specs.Nests.{cells_in, frame_of, call_at, beneath, nested, over, Begins, TakesIn, CanResume, AllResume, Ready, Nests, Nested, Advanced}
+use Rattle.lua_machine.specs.Passes.{Fits}
+use Rattle.lua_machine.specs.Stack.{Stacked, plain}
+use Rattle.lua_machine.specs.Stretch.{at_work, Stretched, Goes}
+use Rattle.lua_machine.specs.Wants.{wanted_of}
+use Rattle.lua_machine.proofs.StretchLemmas.{holding, stretched_none, stretched_join, stretched_more, stretched_falls, gone}
+use Rattle.lua_machine.proofs.RunLemmas.{runs_reach}
+use Rattle.lua_machine.proofs.PassLemmas.{passes_call}
+
+abbrev pub no_call : CallInfo
+no_call = record { function = 0; closure = 0; at = 0; base = 0; wants = wanted.InSlots 0 0 }
+
+-- ---- inner calls past a depth are not seen from it
+pub beneath_set : (cs : List Closure) (d i : ℕ) (calls : List CallInfo) (c : CallInfo) (s : Stacked) → d ≤ i → beneath cs (slice_set calls i c) d s ≡ beneath cs calls d s
+beneath_set cs zero i calls c s le = refl
+beneath_set cs (suc d) i calls c s le =
+    let differs : d ≢ i = λ e. omega arith in
+    let first : call_at (slice_set calls i c) d ≡ call_at calls d = get_or-set_other calls i d c no_call differs in
+    let below : beneath cs (slice_set calls i c) d s ≡ beneath cs calls d s = beneath_set cs d i calls c s (omega arith) in
+    ap (λ (x : CallInfo). frame_of cs x ∷ beneath cs (slice_set calls i c) d s) first ∙ ap (λ (xs : List Frame). frame_of cs (call_at calls d) ∷ xs) below
+
+-- one more inner call, where the one that ran ends as `w`
+pub nested_more : (cs : List Closure) (d : ℕ) (calls : List CallInfo) (c w : CallInfo) (s : Stacked) → d + 1 < length calls
+    → nested cs (slice_set (slice_set calls (d + 1) c) d w) (d + 1) s ≡ record { top = frame_of cs c; below = frame_of cs w ∷ beneath cs calls d s }
+nested_more cs d calls c w s lt =
+    let longer = slice_set calls (d + 1) c in
+    let long : length longer ≡ length calls = length-set calls (d + 1) c in
+    let differs : d + 1 ≢ d = λ is. omega arith in
+    let next : d + 1 ≡ suc d = omega arith in
+    let top : call_at (slice_set longer d w) (d + 1) ≡ c = get_or-set_other longer d (d + 1) w no_call differs ∙ get_or-set_same calls (d + 1) c no_call lt in
+    let waits : call_at (slice_set longer d w) d ≡ w = get_or-set_same longer d w no_call (omega arith) in
+    let below : beneath cs (slice_set longer d w) d s ≡ beneath cs calls d s = beneath_set cs d d longer w s (omega arith) ∙ beneath_set cs d (d + 1) calls c s (omega arith) in
+    ap (λ (x : CallInfo). record { top = frame_of cs x; below = beneath cs (slice_set longer d w) (d + 1) s }) top
+    ∙ ap (λ (n : ℕ). record { top = frame_of cs c; below = beneath cs (slice_set longer d w) n s }) next
+    ∙ ap (λ (x : CallInfo). record { top = frame_of cs c; below = frame_of cs x ∷ beneath cs (slice_set longer d w) d s }) waits
+    ∙ ap (λ (xs : List Frame). record { top = frame_of cs c; below = frame_of cs w ∷ xs }) below
+
+-- ---- calls
+pub begins_so : (code : Code) (cs : List Closure) (row : List Value) (from base args left k place function pay : ℕ) (c : Closure) (f : Routine) → value_at row (from + base) ≡ value.Func k → slice_get cs k ≡ Some c
+    → slice_get code c.function ≡ Some f → place ≡ from + (base + 1) → Fits f.shape args place (length row) left → f.shape.cells ≡ 0 → function ≡ c.function → pay ≡ f.shape.pay
+    → Begins code cs row from base args left (record { function = function; closure = k; at = 0; base = place; wants = wanted.OnTop }) (left - pay)
+begins_so code cs row from base args left k place function pay c f is_func is_closure is_routine is_place fits no_cells is_function is_pay = record {
+  is = λ m results same_closures same_row same_base same_left.
+      let call : CallInfo = record { function = function; closure = k; at = 0; base = place; wants = wanted.OnTop } in
+      let w = waiting (InSlots base results) m.top ∷ m.below in
+      let begun : Stacked = record { top = frame_of cs call; below = w } in
+      let func : slot m base ≡ value.Func k = ap (λ (r : List Value). value_at r (m.top.base + base)) same_row ∙ ap (λ (n : ℕ). value_at row (n + base)) same_base ∙ is_func in
+      let closure : slice_get m.closures k ≡ Some c = ap (λ (xs : List Closure). slice_get xs k) same_closures ∙ is_closure in
+      let placed : place ≡ m.top.base + (base + 1) = is_place ∙ ap (λ (n : ℕ). n + (base + 1)) (sym same_base) in
+      let fit : Fits f.shape args place (length m.row) m.left = subst (λ (n : ℕ). Fits f.shape args place (length m.row) n) (sym same_left) (subst (λ (r : List Value). Fits f.shape args place (length r) left) (sym same_row) fits) in
+      let frame : frame_of cs call ≡ plain c f.shape.cells place =
+      ap (λ (n : ℕ). record (frame_of cs call) { function = n }) is_function
+      ∙ ap (λ (o : Option Closure). record (plain c 0 place) { ups = cells_in o }) is_closure
+      ∙ ap (λ (n : ℕ). plain c n place) (sym no_cells) in
+      let entered : begun ≡ record { top = plain c f.shape.cells place; below = w } = ap (λ (x : Frame). record { top = x; below = w }) frame in
+      passes_call code m base args results k place c f begun func closure is_routine placed fit entered
+      ∙ ap (λ (n : ℕ). On (record m { top = frame_of cs call; below = w; left = n - f.shape.pay })) same_left
+      ∙ ap (λ (n : ℕ). On (record m { top = frame_of cs call; below = w; left = left - n })) (sym is_pay);
+  first = refl;
+}
+
+pub nests_call : (code : Code) (cs : List Closure) (calls : List CallInfo) (d : ℕ) (row : List Value) (base args results number left : ℕ) (pace : Pace) (e : CallInfo) → d + 1 < length calls
+    → Begins code cs row (call_at calls d).base base args pace.left e left → number ≡ base
+    → Nests code cs (op.Call base args results) calls d row pace (slice_set (slice_set calls (d + 1) e) d (record (call_at (slice_set calls (d + 1) e) d) { at = pace.at + 1; wants = wanted.InSlots number results })) (d + 1) row (record { at = 0; left = left })
+nests_call code cs calls d row base args results number left pace e lt begins is_number = record {
+  is = λ s. record {
+    is = λ m cells same.
+        let x = at_work (nested cs calls d s) row cells pace m in
+        let w : CallInfo = record (call_at (slice_set calls (d + 1) e) d) { at = pace.at + 1; wants = wanted.InSlots number results } in
+        let below = beneath cs calls d s in
+        let differs : d ≢ d + 1 = λ is. omega arith in
+        let ran : call_at (slice_set calls (d + 1) e) d ≡ call_at calls d = get_or-set_other calls (d + 1) d e no_call differs in
+        let waits : waiting (InSlots base results) x.top ≡ frame_of cs w =
+        ap (λ (n : ℕ). waiting (InSlots n results) x.top) (sym is_number) ∙ ap (λ (c : CallInfo). frame_of cs (record c { at = pace.at + 1; wants = wanted.InSlots number results })) (sym ran) in
+        begins.is x results same refl refl refl
+        ∙ ap (λ (n : ℕ). On (record x { top = record (frame_of cs e) { at = n }; below = waiting (InSlots base results) x.top ∷ below; left = left })) begins.first
+        ∙ ap (λ (f : Frame). On (record x { top = record (frame_of cs e) { at = 0 }; below = f ∷ below; left = left })) waits
+        ∙ ap (λ (t : Stacked). On (at_work t row cells (record { at = 0; left = left }) m)) (sym (nested_more cs d calls e w s lt));
+    narrow = λ m. tt;
+  };
+}
+
+-- the first inner call of a frame, which waits for it
+pub nests_first : (code : Code) (cs : List Closure) (s t : Stacked) (calls : List CallInfo) (row : List Value) (base args results left : ℕ) (pace : Pace) (e : CallInfo) → 0 < length calls
+    → Begins code cs row s.top.base base args pace.left e left → t ≡ record { top = waiting (InSlots base results) (record s.top { at = pace.at }); below = s.below }
+    → Goes code cs (op.Call base args results) s row pace (nested cs (slice_set calls 0 e) 0 t) row (record { at = 0; left = left })
+nests_first code cs s t calls row base args results left pace e lt begins is_waiting = record {
+  is = λ m cells same.
+      let x = at_work s row cells pace m in
+      let w = waiting (InSlots base results) x.top in
+      let first : call_at (slice_set calls 0 e) 0 ≡ e = get_or-set_same calls 0 e no_call lt in
+      begins.is x results same refl refl refl
+      ∙ ap (λ (n : ℕ). On (record x { top = record (frame_of cs e) { at = n }; below = w ∷ s.below; left = left })) begins.first
+      ∙ ap (λ (t : Stacked). On (record x { top = record (frame_of cs e) { at = 0 }; below = t.top ∷ t.below; left = left })) (sym is_waiting)
+      ∙ ap (λ (c : CallInfo). On (record x { top = record (frame_of cs c) { at = 0 }; below = t.top ∷ t.below; left = left })) (sym first);
+  narrow = λ m. tt;
+}
+
+-- ---- inner calls that wait
+same_length : (code : Code) (row after : List Value) (c : CallInfo) → length after ≡ length row → CanResume code row c → CanResume code after c
+same_length code row after c e h =
+    let room : c.base + h.routine.shape.slots ≤ length row = h.room in
+    record { routine = h.routine; is = h.is; room = omega (arith, e, room); place = h.place; takes = subst (λ (n : ℕ). TakesIn (wanted_of c.wants) c.base n) (sym e) h.takes }
+
+pub ready_same_length : (code : Code) (calls : List CallInfo) (row after : List Value) (d base closure : ℕ) (f : Routine) (at : ℕ) → length after ≡ length row → Ready code calls row d base closure f at
+    → Ready code calls after d base closure f at
+ready_same_length code calls row after d base closure f at e h =
+    let room : base + f.shape.slots ≤ length row = h.room in
+    record {
+      within = h.within;
+      begins = h.begins;
+      closes = h.closes;
+      routine = h.routine;
+      room = omega (arith, e, room);
+      place = h.place;
+      below = record { each = λ i lt. same_length code row after (call_at calls i) e (h.below.each i lt) };
+    }
+
+pub all_fewer : (code : Code) (calls : List CallInfo) (row after : List Value) (d e : ℕ) → e ≤ d → length after ≡ length row → AllResume code calls row d → AllResume code calls after e
+all_fewer code calls row after d e le same h = record { each = λ i lt. same_length code row after (call_at calls i) same (h.each i (omega (arith, lt, le))) }
+
+pub none_below : (code : Code) (calls : List CallInfo) (row : List Value) → AllResume code calls row 0
+none_below code calls row = record { each = λ i lt. absurd (omega (arith, lt)) }
+
+last_or_before : (i d : ℕ) → i < d + 1 → (i < d) ⊎ (i ≡ d)
+last_or_before i d less = go (ltb i d) refl
+  where
+    go : (b : Bool) → ltb i d ≡ b → (i < d) ⊎ (i ≡ d)
+    go true is = inl (ltb-true _ _ is)
+    go false is = let le : d ≤ i = ltb-false _ _ is in inr (omega (arith, less, le))
+
+-- the one that ran waits at the next place, and a call is above it
+pub all_more : (code : Code) (calls : List CallInfo) (row : List Value) (d base closure : ℕ) (f : Routine) (at next : ℕ) (e w : CallInfo) → d + 1 < length calls → next < length f.ops → Ready code calls row d base closure f at
+    → w.function ≡ (call_at (slice_set calls (d + 1) e) d).function → w.base ≡ (call_at (slice_set calls (d + 1) e) d).base → w.at ≡ next → TakesIn (wanted_of w.wants) base (length row)
+    → AllResume code (slice_set (slice_set calls (d + 1) e) d w) row (d + 1)
+all_more code calls row d base closure f at next e w lt is_next ready same_function same_base same_at takes = record { each = λ i less. go i (last_or_before i d less) }
+  where
+    go : (i : ℕ) → (i < d) ⊎ (i ≡ d) → CanResume code row (call_at (slice_set (slice_set calls (d + 1) e) d w) i)
+    go i (inl less) =
+        let not_last : i ≢ d = λ is. omega arith in
+        let not_next : i ≢ d + 1 = λ is. omega arith in
+        let same : call_at (slice_set (slice_set calls (d + 1) e) d w) i ≡ call_at calls i = get_or-set_other (slice_set calls (d + 1) e) d i w no_call not_last ∙ get_or-set_other calls (d + 1) i e no_call not_next in
+        subst (λ (c : CallInfo). CanResume code row c) (sym same) (ready.below.each i less)
+    go i (inr is) =
+        let long : length (slice_set calls (d + 1) e) ≡ length calls = length-set calls (d + 1) e in
+        let differs : d ≢ d + 1 = λ e. omega arith in
+        let ran : call_at (slice_set calls (d + 1) e) d ≡ call_at calls d = get_or-set_other calls (d + 1) d e no_call differs in
+        let waits : call_at (slice_set (slice_set calls (d + 1) e) d w) d ≡ w = get_or-set_same (slice_set calls (d + 1) e) d w no_call (omega arith) in
+        let function : w.function ≡ (call_at calls d).function = same_function ∙ ap (λ (c : CallInfo). c.function) ran in
+        let begins : w.base ≡ (call_at calls d).base = same_base ∙ ap (λ (c : CallInfo). c.base) ran in
+        let from : base ≡ (call_at calls d).base = ready.begins in
+        let room : base + f.shape.slots ≤ length row = ready.room in
+        let held : CanResume code row w = record { routine = f; is = ap (λ (n : ℕ). slice_get code n) function ∙ ready.routine; room = omega (arith, begins, from, room); place = omega (arith, same_at, is_next); takes = subst (λ (n : ℕ). TakesIn (wanted_of w.wants) n (length row)) (from ∙ sym begins) takes } in
+        subst (λ (k : ℕ). CanResume code row (call_at (slice_set (slice_set calls (d + 1) e) d w) k)) (sym is) (subst (λ (c : CallInfo). CanResume code row c) (sym waits) held)
+
+-- the call above it can run from its first operation on
+pub ready_above : (code : Code) (calls : List CallInfo) (row : List Value) (d base closure : ℕ) (f : Routine) (at next : ℕ) (e w : CallInfo) (g : Routine) → d + 1 < length calls → next < length f.ops
+    → Ready code calls row d base closure f at → w.function ≡ (call_at (slice_set calls (d + 1) e) d).function → w.base ≡ (call_at (slice_set calls (d + 1) e) d).base → w.at ≡ next → TakesIn (wanted_of w.wants) base (length row)
+    → slice_get code e.function ≡ Some g → e.base + g.shape.slots ≤ length row → 0 < length g.ops
+    → Ready code (slice_set (slice_set calls (d + 1) e) d w) row (d + 1) e.base e.closure g 0
+ready_above code calls row d base closure f at next e w g lt is_next ready same_function same_base same_at takes is room begins =
+    let longer = slice_set calls (d + 1) e in
+    let long : length longer ≡ length calls = length-set calls (d + 1) e in
+    let both : length (slice_set longer d w) ≡ length longer = length-set longer d w in
+    let differs : d + 1 ≢ d = λ e. omega arith in
+    let top : call_at (slice_set longer d w) (d + 1) ≡ e = get_or-set_other longer d (d + 1) w no_call differs ∙ get_or-set_same calls (d + 1) e no_call lt in
+    record {
+      within = omega (arith, lt, long, both);
+      begins = sym (ap (λ (c : CallInfo). c.base) top);
+      closes = sym (ap (λ (c : CallInfo). c.closure) top);
+      routine = ap (λ (c : CallInfo). slice_get code c.function) top ∙ is;
+      room = room;
+      place = begins;
+      below = all_more code calls row d base closure f at next e w lt is_next ready same_function same_base same_at takes;
+    }
+
+pub valid_begins : (code : Code) (i : ℕ) (f : Routine) → IsValid code → slice_get code i ≡ Some f → 0 < length f.ops
+valid_begins code i f valid is = (valid.functions.each i f is).whole.0
+
+-- one that waited runs on
+pub resumed : (code : Code) (calls : List CallInfo) (row after : List Value) (d e : ℕ) (f : Routine) → e < d → d < length calls → length after ≡ length row → AllResume code calls row d
+    → slice_get code (call_at calls e).function ≡ Some f → Ready code calls after e (call_at calls e).base (call_at calls e).closure f (call_at calls e).at
+resumed code calls row after d e f lt within same below is =
+    let back = below.each e lt in
+    let both : Some back.routine ≡ Some f = sym back.is ∙ is in
+    let routine : back.routine ≡ f = cc in
+    let held : (call_at calls e).base + back.routine.shape.slots ≤ length row = back.room in
+    let room : (call_at calls e).base + back.routine.shape.slots ≤ length after = omega (arith, same, held) in
+    record {
+      within = omega (arith, lt, within);
+      begins = refl;
+      closes = refl;
+      routine = is;
+      room = subst (λ (g : Routine). (call_at calls e).base + g.shape.slots ≤ length after) routine room;
+      place = subst (λ (g : Routine). (call_at calls e).at < length g.ops) routine back.place;
+      below = all_fewer code calls row after d e (omega (arith, lt)) same below;
+    }
+
+-- ---- runs
+pub nested_none : (code : Code) (cs : List Closure) (calls : List CallInfo) (d : ℕ) (row cells : List Value) (pace : Pace) → Nested code cs calls d row cells pace calls d row cells pace
+nested_none code cs calls d row cells pace = record { is = λ s. stretched_none code cs (nested cs calls d s) row cells pace }
+
+pub nested_join : (code : Code) (cs : List Closure) (calls mid later : List CallInfo) (d e g : ℕ) (first held row cells after kept : List Value) (start pace then_at : Pace) → Nested code cs calls d first held start mid e row cells pace
+    → Nested code cs mid e row cells pace later g after kept then_at → Nested code cs calls d first held start later g after kept then_at
+nested_join code cs calls mid later d e g first held row cells after kept start pace then_at p q = record { is = λ s. stretched_join _ _ _ _ _ _ _ _ _ _ _ _ _ _ (p.is s) (q.is s) }
+
+pub nested_next : (code : Code) (cs : List Closure) (calls mid later : List CallInfo) (d e g : ℕ) (first held row cells after : List Value) (start pace then_at : Pace) (o : Op) → Nested code cs calls d first held start mid e row cells pace
+    → op_at code (call_at mid e).function pace.at ≡ Some o → Nests code cs o mid e row pace later g after then_at → Nested code cs calls d first held start later g after cells then_at
+nested_next code cs calls mid later d e g first held row cells after start pace then_at o run is goes = record { is = λ s. stretched_more _ _ _ _ _ _ _ _ _ _ _ _ _ _ (run.is s) is (goes.is s) }
+
+-- frames for inner calls to stand on
+abbrev pub ground : Stacked
+ground = record { top = fresh value.Nil; below = [] }
+
+abbrev pub rank_of : Code → List Closure → List CallInfo → ℕ → List Value → List Value → Pace → ℕ
+rank_of code cs calls d row cells pace = rank (total code) (at_work (nested cs calls d ground) row cells pace (holding cs))
+
+pub nested_falls : (code : Code) (cs : List Closure) (calls mid later : List CallInfo) (d e g : ℕ) (first held row cells after : List Value) (start pace then_at : Pace) (o : Op) → MeasureFalls → IsValid code
+    → Nested code cs calls d first held start mid e row cells pace → op_at code (call_at mid e).function pace.at ≡ Some o → Nests code cs o mid e row pace later g after then_at
+    → rank_of code cs later g after cells then_at < rank_of code cs calls d first held start
+nested_falls code cs calls mid later d e g first held row cells after start pace then_at o falls valid run is goes = stretched_falls _ _ _ _ _ _ _ _ _ _ _ _ _ _ falls valid (run.is ground) is (goes.is ground)
+
+-- so many inner calls, the last of which is at a depth
+pub over_nested : (cs : List Closure) (calls : List CallInfo) (d : ℕ) (s : Stacked) → nested cs calls d s ≡ over cs calls (d + 1) s
+over_nested cs calls d s = let next : suc d ≡ d + 1 = omega arith in ap (λ (n : ℕ). over cs calls n s) next
+
+-- ---- at least one operation
+pub advanced_goes : (code : Code) (cs : List Closure) (s t : Stacked) (row cells after : List Value) (pace then_at : Pace) (o : Op) → op_at code s.top.function pace.at ≡ Some o → Goes code cs o s row pace t after then_at
+    → Advanced code cs s row cells pace t after cells then_at
+advanced_goes code cs s t row cells after pace then_at o is goes = record {
+  is = stretched_more _ _ _ _ _ _ _ _ _ _ _ _ _ _ (stretched_none code cs s row cells pace) is goes;
+  falls = λ falls valid m same. falls code (at_work s row cells pace m) (at_work t after cells then_at m) valid (gone code cs s t row cells after pace then_at o is goes m same);
+}
+
+pub advanced_more : (code : Code) (cs : List Closure) (s t u : Stacked) (row cells mid held after later : List Value) (start pace then_at : Pace) → Advanced code cs s row cells start t mid held pace
+    → Stretched code cs t mid held pace u after later then_at → Advanced code cs s row cells start u after later then_at
+advanced_more code cs s t u row cells mid held after later start pace then_at first rest = record {
+  is = stretched_join _ _ _ _ _ _ _ _ _ _ _ _ _ _ first.is rest;
+  falls = λ falls good m same.
+      let lt : rank (total code) (at_work t mid held pace m) < rank (total code) (at_work s row cells start m) = first.falls falls good m same in
+      let le : rank (total code) (at_work u after later then_at m) ≤ rank (total code) (at_work t mid held pace m) = runs_reach code (at_work t mid held pace m) (at_work u after later then_at m) falls good (rest.is m same) in
+      omega (arith, lt, le);
+}
+
+pub advanced_falls : (code : Code) (cs : List Closure) (s t u : Stacked) (row cells mid held after later : List Value) (start pace then_at : Pace) → MeasureFalls → IsValid code
+    → Stretched code cs s row cells start t mid held pace → Advanced code cs t mid held pace u after later then_at
+    → rank (total code) (at_work u after later then_at (holding cs)) < rank (total code) (at_work s row cells start (holding cs))
+advanced_falls code cs s t u row cells mid held after later start pace then_at falls valid run rest =
+    let a = at_work s row cells start (holding cs) in
+    let b = at_work t mid held pace (holding cs) in
+    let c = at_work u after later then_at (holding cs) in
+    let le : rank (total code) b ≤ rank (total code) a = runs_reach code a b falls valid (run.is (holding cs) refl) in
+    let lt : rank (total code) c < rank (total code) b = rest.falls falls valid (holding cs) refl in
+    omega (arith, lt, le)
+
+-- ---- answers that may be none
+pub some_both : (o : Option Halt) (P Q R : Halt → Type 0) → ((h : Halt) → P h → Q h → R h) → IfSome o P → IfSome o Q → IfSome o R
+some_both None P Q R f p q = tt
+some_both (Some h) P Q R f p q = f h p q
