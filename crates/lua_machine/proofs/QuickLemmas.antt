@@ -15,6 +15,8 @@ use Rattle.lua_steps.specs.Exec.{ops_of, op_at, perform_at, exec, opening}
 use Rattle.lua_steps.specs.Measure.{total, rank, MeasureFalls}
 use Rattle.lua_follow.specs.Follows.{NarrowAt}
 use Rattle.lua_machine.specs.declared.pace.Pace.{Pace}
+use Rattle.lua_machine.specs.declared.pace.Pass.{Pass}
+use Rattle.lua_machine.specs.declared.pace.Pass.TheVariants as pass
 use Rattle.lua_machine.specs.Runs.{Runs}
 use Rattle.lua_machine.specs.Quick.{around, in_hand, placed, Quick, OnSlots, Ran, Led, Within, Near}
 use Rattle.lua_machine.proofs.RunLemmas.{runs_more, runs_none}
@@ -180,21 +182,37 @@ pub some_map : (o : Option Pace) (P Q : Pace → Type 0) → ((p : Pace) → P p
 some_map None P Q f h = tt
 some_map (Some p) P Q f h = f p h
 
-pub none_more : (o : Option Pace) (row after : List Value) (h : Contents) → IfNone o (after ≡ row) → IfNone o ((after ≡ row) × (h ≡ h))
-none_more None row after h e = (e, refl)
-none_more (Some p) row after h e = tt
+none_at : (o : Option Pace) (P : Type 0) → o ≡ None → IfNone o P → P
+none_at o P is h = subst (λ (x : Option Pace). IfNone x P) is h
 
 pub held_at : (o : Option Pace) (p : Pace) (P : Pace → Type 0) → o ≡ Some p → IfSome o P → P p
 held_at o p P is h = subst (λ (x : Option Pace). IfSome x P) is h
+
+-- what holds of the pace that an operation leads to holds of the one that is kept
+pub kept : (next : Option Pace) (left : Option Pass) (then_at : Pace) (P : Pace → Type 0) → IfNone left (next ≡ Some then_at) → IfSome next P → IfNone left (P then_at)
+kept next None then_at P is h = held_at next then_at P is h
+kept next (Some p) then_at P is h = tt
+
+pub kept_next : (next : Option Pace) (left : Option Pass) (then_at : Pace) (at count : ℕ) → at + 1 < count → IfNone left (next ≡ Some then_at) → IfSome next (λ p. p.at ≡ at + 1) → IfNone left (then_at.at < count)
+kept_next next left then_at at count lt is h = kept next left then_at (λ (p : Pace). p.at < count) is (some_map next (λ (p : Pace). p.at ≡ at + 1) (λ (p : Pace). p.at < count) (λ p e. omega (arith, e, lt)) h)
+
+pub kept_near : (next : Option Pace) (left : Option Pass) (then_at : Pace) (count : ℕ) → IfNone left (next ≡ Some then_at) → IfSome next (λ p. p.at < count) → IfNone left (then_at.at < count)
+kept_near next left then_at count is h = kept next left then_at (λ (p : Pace). p.at < count) is h
+
+-- what comes to a stop leaves all as it was
+pub stays_more : (next : Option Pace) (left : Option Pass) (row after : List Value) (h : Contents) (start end : Pace) → IfSome left (λ p. (p ≡ pass.Neither) × (end ≡ start) × (next ≡ None)) → IfNone next (after ≡ row)
+    → IfSome left (λ p. (after ≡ row) × (h ≡ h) × (end ≡ start))
+stays_more next None row after h start end is e = tt
+stays_more next (Some p) row after h start end is e = (none_at next (after ≡ row) is.2 e, refl, is.1)
 
 -- ---- an operation that touches no cell
 pub lifts : (o : Op) (own ups : List ℕ) (row after cells : List Value) (pace p : Pace) → OnSlots o row pace after p → Quick o own ups row cells pace after cells p
 lifts o own ups row after cells pace p h = record { is = λ code f before m. h.is code (around f own ups before m) cells; narrow = h.narrow }
 
-pub lifts_some : (o : Op) (own ups : List ℕ) (row after cells : List Value) (pace : Pace) (r : Option Pace)
-    → IfSome r (λ p. OnSlots o row pace after p) → IfSome r (λ p. Quick o own ups row cells pace after cells p)
-lifts_some o own ups row after cells pace None h = tt
-lifts_some o own ups row after cells pace (Some p) h = lifts o own ups row after cells pace p h
+pub lifts_kept : (o : Op) (own ups : List ℕ) (row after cells : List Value) (pace then_at : Pace) (next : Option Pace) (left : Option Pass)
+    → IfNone left (next ≡ Some then_at) → IfSome next (λ p. OnSlots o row pace after p) → IfNone left (Quick o own ups row cells pace after cells then_at)
+lifts_kept o own ups row after cells pace then_at next None is h = lifts o own ups row after cells pace then_at (held_at next then_at (λ (p : Pace). OnSlots o row pace after p) is h)
+lifts_kept o own ups row after cells pace then_at next (Some p) is h = tt
 
 -- ---- runs
 -- a machine that has nothing but what is in hand

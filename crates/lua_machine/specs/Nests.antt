@@ -1,5 +1,5 @@
 -- Calls within a stretch that need no frame of their own. They are this project's own.
-use Rattle.std.specs.Prelude.{◌≡◌, ℕ, zero, suc, ◌+◌, ◌<◌, ◌≤◌, Bool, true, false, List, [], ◌∷◌, length, Option, Some, None, get_or, slice_get}
+use Rattle.std.specs.Prelude.{◌≡◌, ℕ, zero, suc, ◌+◌, ◌<◌, ◌≤◌, Bool, true, false, if◌then◌else◌, List, [], ◌∷◌, length, Option, Some, None, get_or, slice_get}
 use Rattle.lua_value.specs.declared.value.Value.{Value}
 use Rattle.lua_value.specs.Lists.{adjusted}
 use Rattle.lua_code.specs.Routine.{Routine}
@@ -14,11 +14,11 @@ use Rattle.lua_steps.specs.Measure.{total, rank, MeasureFalls}
 use Rattle.lua_machine.specs.declared.call_info.CallInfo.{CallInfo}
 use Rattle.lua_machine.specs.declared.call_info.Owner.{Owner}
 use Rattle.lua_machine.specs.declared.call_info.Owner.TheVariants as owner
-use Rattle.lua_machine.specs.declared.frame.Wanted.TheVariants as wanted
 use Rattle.lua_machine.specs.declared.pace.Pace.{Pace}
+use Rattle.lua_machine.specs.declared.pace.Pass.{Pass}
+use Rattle.lua_machine.specs.declared.pace.Pass.TheVariants as pass
 use Rattle.lua_machine.specs.Stack.{Stacked}
 use Rattle.lua_machine.specs.Stretch.{at_work, Stretched, Goes}
-use Rattle.lua_machine.specs.Wants.{wanted_of}
 
 -- ---- the frames that inner calls stand for
 -- the cells of a closure, where there is one
@@ -26,14 +26,25 @@ abbrev pub cells_in : Option Closure → List ℕ
 cells_in None = []
 cells_in (Some c) = c.cells
 
+-- the cells of the closure with this number; none where the heap gave none
 abbrev pub cells_under : List Closure → ℕ → List ℕ
 cells_under cs c = cells_in (slice_get cs c)
 
-abbrev pub frame_of : List Closure → CallInfo → Frame
-frame_of cs c = record { function = c.function; at = c.at; base = c.base; cells = []; ups = cells_under cs c.closure; dots = []; lists = []; wants = wanted_of c.wants }
+-- where the values go that it waits for, once it has waited
+abbrev pub wants_of : CallInfo → Wanted
+wants_of c = if c.has_called then InSlots c.to c.count else OnTop
 
+-- the frame that an inner call stands for: its function has no cells of its own and no `...`, and no list is under construction
+abbrev pub frame_of : List Closure → CallInfo → Frame
+frame_of cs c = record { function = c.function; at = c.at; base = c.base; cells = []; ups = cells_under cs c.closure; dots = []; lists = []; wants = wants_of c }
+
+-- the frame that an inner call stands for as it begins
+abbrev pub entered : List Closure → ℕ → ℕ → ℕ → Frame
+entered cs function closure base = record { function = function; at = 0; base = base; cells = []; ups = cells_under cs closure; dots = []; lists = []; wants = OnTop }
+
+-- the inner call at a depth; past the end of the list, what a contract reads there
 abbrev pub call_at : List CallInfo → ℕ → CallInfo
-call_at calls d = get_or calls d (record { function = 0; closure = 0; at = 0; base = 0; wants = wanted.InSlots 0 0 })
+call_at calls d = get_or calls d (record { function = 0; closure = 0; at = 0; base = 0; has_called = false; to = 0; count = 0 })
 
 -- the frames below the inner call at a depth: those of the inner calls before it, and these
 abbrev pub beneath : List Closure → List CallInfo → ℕ → Stacked → List Frame
@@ -58,47 +69,68 @@ abbrev pub ups_in : Owner → List Closure → List ℕ
 ups_in (owner.Frame f) cs = f.now.ups
 ups_in (owner.Closure c) cs = cells_under cs c
 
--- ---- what calls and returns do
--- a call from a frame whose slots begin at a place begins so
-pub record Begins (code : Code) (cs : List Closure) (row : List Value) (from base args left : ℕ) (c : CallInfo) (left_over : ℕ) : Type 0 where
-  pub is : (m : Machine) (results : ℕ) → m.closures ≡ cs → m.row ≡ row → m.top.base ≡ from → m.left ≡ left
-      → perform code (op.Call base args results) m ≡ On (record m { top = frame_of cs c; below = waiting (InSlots base results) m.top ∷ m.below; left = left_over })
-  pub first : c.at ≡ 0
+-- they are in the heap
+abbrev pub IsThere : Owner → List Closure → Type 0
+IsThere (owner.Frame f) cs = Unit {0}
+IsThere (owner.Closure c) cs = c < length cs
 
--- so many values from a place of the row on are handed to a frame that wants them so, if it wants them in slots
+-- ---- what calls and returns do
+-- a call from a frame whose slots begin at a place begins a function's body so, with these cells and slots
+pub record Begins (code : Code) (cs : List Closure) (row : List Value) (from base args left function closure place left_over : ℕ) : Type 0 where
+  pub is : (m : Machine) (results : ℕ) → m.closures ≡ cs → m.row ≡ row → m.top.base ≡ from → m.left ≡ left
+      → perform code (op.Call base args results) m ≡ On (record m { top = entered cs function closure place; below = waiting (InSlots base results) m.top ∷ m.below; left = left_over })
+  pub there : closure < length cs
+
+-- so many values from a place of the row on are handed to the `n` places from `to` on, or nothing is
+abbrev pub HandedTo : Bool → ℕ → ℕ → ℕ → ℕ → List Value → List Value → Type 0
+HandedTo true n to from count row after = after ≡ written row to (adjusted n (values_from row from count))
+HandedTo false n to from count row after = after ≡ row
+
+-- they are handed to a frame that wants them so, if it wants them in slots
 abbrev pub HandedIf : Bool → Wanted → ℕ → ℕ → ℕ → List Value → List Value → Type 0
-HandedIf true (InSlots to n) base from count row after = after ≡ written row (base + to) (adjusted n (values_from row from count))
+HandedIf done (InSlots to n) base from count row after = HandedTo done n (base + to) from count row after
 HandedIf true OnTop base from count row after = ⊥
-HandedIf false w base from count row after = after ≡ row
+HandedIf false OnTop base from count row after = after ≡ row
 
 -- ---- runs
--- the row, which is so long, has the slots that take the values
-abbrev pub TakesIn : Wanted → ℕ → ℕ → Type 0
-TakesIn (InSlots to n) base long = base + to + n ≤ long
-TakesIn OnTop base long = ⊥
+-- these are the operations of a function, whose slots begin at a place of the row, which is so long and has them all
+pub record Runnable (code : Code) (function : ℕ) (ops : List Op) (base long : ℕ) : Type 0 where
+  pub routine : Routine
+  pub is : slice_get code function ≡ Some routine
+  pub has : ops ≡ routine.ops
+  pub room : base + routine.shape.slots ≤ long
 
--- an inner call that waits can run on: it has a function, the row has its slots, with those that take the values, and its place is there
-pub record CanResume (code : Code) (row : List Value) (c : CallInfo) : Type 0 where
+-- an inner call that waits can run on: it has a closure and a function, the row has its slots, with those that take the values, and its
+-- place is there
+pub record CanResume (code : Code) (cs : List Closure) (row : List Value) (c : CallInfo) : Type 0 where
+  pub there : c.closure < length cs
   pub routine : Routine
   pub is : slice_get code c.function ≡ Some routine
   pub room : c.base + routine.shape.slots ≤ length row
   pub place : c.at < length routine.ops
-  pub takes : TakesIn (wanted_of c.wants) c.base (length row)
+  pub called : c.has_called ≡ true
+  pub takes : c.base + c.to + c.count ≤ length row
 
 -- so can all below a depth
-pub record AllResume (code : Code) (calls : List CallInfo) (row : List Value) (d : ℕ) : Type 0 where
-  pub each : (i : ℕ) → i < d → CanResume code row (call_at calls i)
+pub record AllResume (code : Code) (cs : List Closure) (calls : List CallInfo) (row : List Value) (d : ℕ) : Type 0 where
+  pub each : (i : ℕ) → i < d → CanResume code cs row (call_at calls i)
 
--- the inner call at a depth can run on at a place: this is where its slots begin, this its closure and this its function, and the row has
--- its slots
-pub record Ready (code : Code) (calls : List CallInfo) (row : List Value) (d base closure : ℕ) (f : Routine) (at : ℕ) : Type 0 where
+-- the inner call at a depth can run on at a place: these are its function, its closure, where its slots begin, and its operations
+pub record Ready (code : Code) (cs : List Closure) (calls : List CallInfo) (row : List Value) (d function closure base : ℕ) (ops : List Op) (at : ℕ) : Type 0 where
   pub within : d < length calls
-  pub begins : base ≡ (call_at calls d).base
+  pub serves : function ≡ (call_at calls d).function
   pub closes : closure ≡ (call_at calls d).closure
-  pub routine : slice_get code (call_at calls d).function ≡ Some f
-  pub room : base + f.shape.slots ≤ length row
-  pub place : at < length f.ops
-  pub below : AllResume code calls row d
+  pub begins : base ≡ (call_at calls d).base
+  pub there : closure < length cs
+  pub runs : Runnable code function ops base (length row)
+  pub place : at < length ops
+  pub below : AllResume code cs calls row d
+
+-- the slots that a call or a return takes are within the row, which is so long, and a call has an operation after it
+abbrev pub Reaches : Pass → ℕ → ℕ → ℕ → ℕ → Type 0
+Reaches (pass.Call b args results) base long at count = (base + b < long) × (base + b + results ≤ long) × (at + 1 < count)
+Reaches (pass.Return from n) base long at count = base + from + n ≤ long
+Reaches pass.Neither base long at count = Unit {0}
 
 -- an operation leads from one inner call to another, whatever frames they stand on
 pub record Nests (code : Code) (cs : List Closure) (o : Op) (calls : List CallInfo) (d : ℕ) (row : List Value) (pace : Pace) (later : List CallInfo) (e : ℕ) (after : List Value) (then_at : Pace) : Type 0 where

@@ -1,5 +1,5 @@
 -- Operations that touch slots, cells, the place and ticks alone, as a run of them has these in hand. They are this project's own.
-use Rattle.std.specs.Prelude.{◌≡◌, ℕ, ◌+◌, ◌<◌, Bool, ℤ, List, ◌++◌, length, Option, Some, None}
+use Rattle.std.specs.Prelude.{◌≡◌, ℕ, ◌+◌, ◌<◌, Bool, ℤ, List, ◌++◌, length, Some}
 use Rattle.lua_value.specs.declared.value.Value.{Value}
 use Rattle.lua_value.specs.declared.value.Value.TheVariants as value
 use Rattle.lua_model.specs.declared.operator.Binary.{Binary}
@@ -16,8 +16,6 @@ use Rattle.lua_follow.specs.Follows.{NarrowAt}
 use Rattle.lua_machine.specs.declared.pace.Pace.{Pace}
 use Rattle.lua_machine.specs.declared.pace.Pass.{Pass}
 use Rattle.lua_machine.specs.declared.pace.Pass.TheVariants as pass
-use Rattle.lua_machine.specs.declared.pace.Tried.{Tried}
-use Rattle.lua_machine.specs.declared.pace.Tried.TheVariants as tried
 use Rattle.lua_machine.specs.Runs.{Runs}
 
 -- ---- what is in hand
@@ -66,16 +64,7 @@ placed f own ups base row cells pace m =
 pub record Led (code : Code) (f : ℕ) (own ups : List ℕ) (base : ℕ) (row cells : List Value) (pace : Pace) (after later : List Value) (then_at : Pace) : Type 0 where
   pub is : (m : Machine) → Runs code (placed f own ups base row cells pace m) (On (placed f own ups base after later then_at m))
 
--- ---- what comes of an operation
--- the pace that it leads to, if it is quick and comes to no stop
-abbrev pub next_of : Tried → Option Pace
-next_of (tried.Quick next) = next
-next_of (tried.Slow p) = None
-
-abbrev pub pass_of : Tried → Pass
-pass_of (tried.Quick next) = pass.Neither
-pass_of (tried.Slow p) = p
-
+-- ---- what an operation is
 -- it is this call or return, if it is said to be one
 abbrev pub IsPass : Pass → Op → Type 0
 IsPass (pass.Call base args results) o = o ≡ op.Call base args results

@@ -1,4 +1,4 @@
-ghost use Rattle.std.specs.Prelude.{◌≡◌, ◌<◌, slice_set, slice_get, map, IfOk, OnOk};
+ghost use Rattle.std.specs.Prelude.{◌≡◌, ◌<◌, length, slice_set, slice_get, map, IfOk, OnOk};
 ghost use Rattle.lua_code.specs.Routine.{Routine};
 ghost use Rattle.lua_model.specs.Heap as model;
 ghost use Rattle.lua_value.specs.Lists.{value_at};
@@ -7,7 +7,7 @@ ghost use Rattle.lua_steps.specs.Machine as steps;
 ghost use Rattle.lua_steps.specs.Moves.{next, gives, slot};
 ghost use Rattle.lua_steps.specs.Exec.{cell_of, new_cell, captured, taken, closed, close_cell, captures_of, constant_value, constant_at};
 ghost use Rattle.lua_heap.specs.Contents.{cell_written};
-ghost use Rattle.lua_machine.specs.Nests.{cells_under, own_in, ups_in};
+ghost use Rattle.lua_machine.specs.Nests.{cells_under, own_in, ups_in, IsThere};
 ghost use Rattle.lua_machine.specs.Views.{says, IsClosed};
 
 use crate::call_info::Owner;
@@ -42,6 +42,15 @@ pub fn closure_cells(heap: &Heap, closure: u64) -> &[u64]
     }
 }
 
+/// The cells of a closure that the heap gave.
+#[inline(always)]
+pub fn cells_there(heap: &Heap, closure: u64) -> &[u64]
+    requires { closure < length heap.now.closures }
+    ensures { result.now ≡ cells_under heap.now.closures closure }
+{
+    heap.cells_of(closure)
+}
+
 /// One of the cells of a body's captured locals.
 #[inline(always)]
 pub fn own_of(owner: Owner, i: u16) -> u64
@@ -56,11 +65,12 @@ pub fn own_of(owner: Owner, i: u16) -> u64
 /// One of the cells of a body's closure.
 #[inline(always)]
 pub fn up_of(heap: &Heap, owner: Owner, i: u16) -> u64
+    requires { IsThere owner heap.now.closures }
     ensures { result ≡ cell_of (ups_in owner.entry heap.now.closures) i }
 {
     match owner {
         Owner::Frame(frame) => cell_of(frame.up_cells(), i),
-        Owner::Closure(closure) => cell_of(closure_cells(heap, closure), i),
+        Owner::Closure(closure) => cell_of(cells_there(heap, closure), i),
     }
 }
 

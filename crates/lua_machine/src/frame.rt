@@ -70,7 +70,7 @@ fn forget_cells(kept: &mut Vec<u64>, count: u16) -> Result<(), NoMemory>
     Ok(())
 }
 
-/// These cells, in place of those that were kept. One in the place of one, as most closures have it, makes no call.
+/// These cells, in place of those that were kept. One cell in the place of one makes no call.
 #[inline(always)]
 fn take_over(kept: &mut Vec<u64>, cells: &[u64]) -> Result<(), NoMemory>
     ensures { OnOk result (kept.new.items ≡ cells.now) }
@@ -195,9 +195,10 @@ impl Frame {
     pub fn take(&mut self, call: CallInfo, ups: &[u64]) -> Result<(), NoMemory>
         ensures { OnOk result (self.new ≡ record (frame_of [] call) { ups = ups.now }) }
     {
-        self.reopen(call.function, ups, 0, call.base)?;
+        let base = call.first_slot()?;
+        self.reopen(call.function, ups, 0, base)?;
         self.at = call.at;
-        self.wants = call.wants;
+        self.wants = call.wants();
         Ok(())
     }
 
@@ -205,9 +206,10 @@ impl Frame {
     pub fn of_call(alloc: Global, call: CallInfo, ups: &[u64]) -> Result<Frame, NoMemory>
         ensures { IfOk result (λ frame. frame ≡ record (frame_of [] call) { ups = ups.now }) }
     {
-        let mut frame = Frame::open(alloc, call.function, ups, 0, call.base)?;
+        let base = call.first_slot()?;
+        let mut frame = Frame::open(alloc, call.function, ups, 0, base)?;
         frame.at = call.at;
-        frame.wants = call.wants;
+        frame.wants = call.wants();
         Ok(frame)
     }
 }

@@ -35,17 +35,18 @@ fn call_inner<'a>(
     requires within { depth < length frames.old }
     requires place { pace.at < usize.MAX }
     ensures goes { IfSome result (λ a. Goes code.now heap.now.closures (op.Call base args results) (stacked frames.old depth) row.now pace (nested heap.now.closures calls.new a.depth (stacked frames.new depth)) row.now a.pace) }
-    ensures ready { IfSome result (λ a. Ready code.now calls.new row.now a.depth a.base a.closure a.routine.now a.pace.at) }
+    ensures ready { IfSome result (λ a. Ready code.now heap.now.closures calls.new row.now a.depth a.function a.closure a.base a.ops.now a.pace.at) }
     ensures none { IfNone result (frames.new ≡ frames.old) }
 {
     let top = &frames[depth];
     if calls.is_empty() || row.len() <= top.base as usize + base as usize {
         return None;
     }
-    let Some(begun) = entry(code, row, heap, top.base, base, args, pace.left) else {
+    let Some(begun) = entry(code, row, heap, top.base as usize, base, args, pace.left) else {
         return None;
     };
-    calls[0] = begun.call;
+    let callee = &mut calls[0];
+    callee.begin(begun.function, begun.closure, begun.base);
     let wants = Wanted::InSlots {
         to: u32::from(base),
         count: results,
@@ -54,9 +55,10 @@ fn call_inner<'a>(
     top.wait_at(pace.at, wants);
     Some(Active {
         depth: 0,
-        base: begun.call.base,
-        closure: begun.call.closure,
-        routine: begun.routine,
+        function: begun.function,
+        closure: begun.closure,
+        base: begun.base,
+        ops: begun.ops,
         pace: Pace {
             at: 0,
             left: begun.left,
@@ -86,7 +88,9 @@ fn return_to_frame(
 {
     let caller = &frames[depth];
     let top = &calls[0];
-    let place = top.base as usize + from as usize;
+    let Some(place) = top.base.checked_add(from as usize) else {
+        return None;
+    };
     if !hand_over(row, caller.wants, caller.base, place, count) {
         return None;
     }

@@ -2,12 +2,12 @@
 //! few words and a return reads them.
 
 ghost use Rattle.std.specs.Prelude.{◌≡◌, ◌+◌, ◌<◌, ◌≤◌, length, IfSome, IfNone, Some, slice_get, slice_set};
-ghost use Rattle.lua_code.specs.Valid.{Fits, IsValid};
+ghost use Rattle.lua_code.specs.Valid.{IsValid};
 ghost use Rattle.lua_code.specs.declared.op.Op.TheVariants as op;
 ghost use Rattle.lua_value.specs.Lists.{value_at};
 ghost use Rattle.lua_steps.specs.Moves.{values_from};
 ghost use Rattle.lua_steps.specs.Exec.{op_at};
-ghost use Rattle.lua_machine.specs.Nests.{call_at, Begins, HandedIf, TakesIn, Ready, Nests, Nested};
+ghost use Rattle.lua_machine.specs.Nests.{call_at, Begins, HandedIf, HandedTo, Runnable, Ready, Reaches, Nests, Nested};
 ghost use Rattle.lua_machine.specs.Quick.{IsPass};
 ghost use Rattle.lua_machine.specs.Wants.{wanted_of};
 
@@ -17,27 +17,29 @@ use crate::pace::{Pace, Pass, Reached};
 use crate::pass::{fits, function_at};
 use crate::quick::block_at;
 use crate::slots::value_there;
-use crate::state::put_at;
-use lua_code::Function;
+use lua_code::{Function, Op};
 use lua_heap::Heap;
 use lua_steps::law_measure_falls;
 use lua_value::Value;
 
-/// What a call of a closure begins: the inner call, its function, and the ticks that are left.
+/// What a call of a closure begins: a body of its function, with its cells and these slots, and the ticks that are left.
 #[derive(Clone, Copy)]
 pub struct Begun<'a> {
-    pub call: CallInfo,
-    pub routine: &'a Function,
+    pub function: u64,
+    pub closure: u64,
+    pub base: usize,
+    pub ops: &'a [Op],
     pub left: u64,
 }
 
-/// The inner call that runs: how many there are below it, where its slots begin, its closure, its function, and its pace.
+/// The inner call that runs: how many there are below it, its function, its closure, where its slots begin, its operations, and its pace.
 #[derive(Clone, Copy)]
 pub struct Active<'a> {
     pub depth: usize,
-    pub base: u32,
+    pub function: u64,
     pub closure: u64,
-    pub routine: &'a Function,
+    pub base: usize,
+    pub ops: &'a [Op],
     pub pace: Pace,
 }
 
@@ -55,20 +57,16 @@ pub fn entry<'a>(
     code: &'a [Function],
     row: &[Value],
     heap: &Heap,
-    from: u32,
+    from: usize,
     base: u16,
     args: u16,
     left: u64,
 ) -> Option<Begun<'a>>
     requires slot { from + base < length row.now }
-    ensures begins { IfSome result (λ e. Begins code.now heap.now.closures row.now from base args left e.call e.left) }
-    ensures routine { IfSome result (λ e. slice_get code.now e.call.function ≡ Some e.routine.now) }
-    ensures room { IfSome result (λ e. e.call.base + e.routine.now.shape.slots ≤ length row.now) }
+    ensures begins { IfSome result (λ e. Begins code.now heap.now.closures row.now from base args left e.function e.closure e.base e.left) }
+    ensures runs { IfSome result (λ e. Runnable code.now e.function e.ops.now e.base (length row.now)) }
 {
-    let Some(place) = from.checked_add(u32::from(base) + 1) else {
-        return None;
-    };
-    let Value::Func(number) = value_there(row, from as usize + base as usize) else {
+    let Value::Func(number) = value_there(row, from + base as usize) else {
         return None;
     };
     let Some(closure) = heap.closure_at(number) else {
@@ -77,35 +75,18 @@ pub fn entry<'a>(
     let Some(routine) = function_at(code, closure.function()) else {
         return None;
     };
+    let place = from + base as usize + 1;
     let shape = routine.shape();
     if shape.cells != 0 || !fits(shape, args, place, row.len(), left) {
         return None;
     }
     Some(Begun {
-        call: CallInfo {
-            function: closure.function(),
-            closure: number,
-            at: 0,
-            base: place,
-            wants: Wanted::OnTop,
-        },
-        routine,
+        function: closure.function(),
+        closure: number,
+        base: place,
+        ops: routine.ops(),
         left: left - u64::from(shape.pay),
     })
-}
-
-/// The first of so many values from a place of the row on goes to another place, and nil if there is none.
-#[inline(always)]
-fn move_first(row: &mut [Value], to: usize, from: usize, count: u16)
-    ensures { row.new ≡ slice_set row.old to (value_at (values_from row.old from count) 0) }
-{
-    match row.get(from) {
-        Some(value) if count > 0 => {
-            let value = *value;
-            put_at(row, to, value);
-        }
-        _ => put_at(row, to, Value::Nil),
-    }
 }
 
 /// A return to a frame that wants at most one value in its slots, which begin at `base`.
@@ -116,30 +97,28 @@ pub fn hand_over(row: &mut [Value], wants: Wanted, base: u32, from: usize, count
     let Wanted::InSlots { to, count: wanted } = wants else {
         return false;
     };
-    if wanted > 1 {
+    let first = base as usize + to as usize;
+    if row.len() < first + wanted as usize {
         return false;
     }
-    if wanted == 1 {
-        move_first(row, base as usize + to as usize, from, count);
+    if row.len() < from || row.len() - from < count as usize {
+        return false;
     }
-    true
+    hand_down(row, first, wanted, from, count)
 }
 
-/// A return of values that are there to a body that has the slots for them, if it wants at most one.
+/// A return of values that are there to the places from `to` on, which are there, if at most one is wanted.
 #[inline(always)]
-fn hand_down(row: &mut [Value], wants: Wanted, base: u32, from: usize, count: u16) -> bool
+fn hand_down(row: &mut [Value], to: usize, wanted: u16, from: usize, count: u16) -> bool
     requires from { from + count ≤ length row.old }
-    requires slots { TakesIn (wanted_of wants) base (length row.old) }
-    ensures { HandedIf result (wanted_of wants) base from count row.old row.new }
+    requires to { to + wanted ≤ length row.old }
+    ensures { HandedTo result wanted to from count row.old row.new }
 {
-    let Wanted::InSlots { to, count: wanted } = wants else {
-        unreachable!()
-    };
     if wanted > 1 {
         return false;
     }
     if wanted == 1 {
-        move_down(row, base as usize + to as usize, from, count);
+        move_down(row, to, from, count);
     }
     true
 }
@@ -163,27 +142,26 @@ fn move_down(row: &mut [Value], to: usize, from: usize, count: u16)
 #[inline(always)]
 fn hasten(
     code: &[Function],
-    calls: &[CallInfo],
+    _calls: &[CallInfo],
     row: &mut [Value],
     heap: &mut Heap,
     active: Active<'_>,
 ) -> Reached
     requires valid { IsValid code.now }
-    requires ready { Ready code.now calls.now row.old active.depth active.base active.closure active.routine.now active.pace.at }
-    ensures ran { Nested code.now heap.old.closures calls.now active.entry.depth row.old heap.old.cells active.entry.pace calls.now active.entry.depth row.new heap.new.cells result.pace }
-    ensures op { op_at code.now (call_at calls.now active.entry.depth).function result.pace.at ≡ Some result.op }
+    requires ready { Ready code.now heap.old.closures _calls.now row.old active.depth active.function active.closure active.base active.ops.now active.pace.at }
+    ensures ran { Nested code.now heap.old.closures _calls.now active.entry.depth row.old heap.old.cells active.entry.pace _calls.now active.entry.depth row.new heap.new.cells result.pace }
+    ensures op { op_at code.now (call_at _calls.now active.entry.depth).function result.pace.at ≡ Some result.op }
     ensures pass { IsPass result.pass result.op }
-    ensures fits { Fits code.now active.entry.routine.now result.pace.at result.op }
+    ensures reaches { Reaches result.pass active.entry.base (length row.new) result.pace.at (length active.entry.ops.now) }
     ensures place { result.pace.at < usize.MAX }
     ensures heap { heap.new ≡ record heap.old { cells = heap.new.cells } }
 {
-    let call = &calls[active.depth];
     block_at::<true>(
         code,
-        call.function,
-        active.routine,
+        active.function,
+        active.ops,
         row,
-        active.base as usize,
+        active.base,
         heap,
         Owner::Closure(active.closure),
         active.pace,
@@ -204,13 +182,12 @@ fn nest_call<'a>(
     pace: Pace,
 ) -> Option<Active<'a>>
     requires valid { IsValid code.now }
-    requires ready { Ready code.now calls.old row.now here.depth here.base here.closure here.routine.now here.pace.at }
+    requires ready { Ready code.now heap.now.closures calls.old row.now here.depth here.function here.closure here.base here.ops.now here.pace.at }
     requires slot { here.base + base < length row.now }
-    requires place { pace.at < usize.MAX }
-    requires next { pace.at + 1 < length here.routine.now.ops }
     requires results { here.base + base + results ≤ length row.now }
+    requires next { pace.at + 1 < length here.ops.now }
     ensures nests { IfSome result (λ a. Nests code.now heap.now.closures (op.Call base args results) calls.old here.entry.depth row.now pace calls.new a.depth row.now a.pace) }
-    ensures ready { IfSome result (λ a. Ready code.now calls.new row.now a.depth a.base a.closure a.routine.now a.pace.at) }
+    ensures ready { IfSome result (λ a. Ready code.now heap.now.closures calls.new row.now a.depth a.function a.closure a.base a.ops.now a.pace.at) }
     ensures none { IfNone result (calls.new ≡ calls.old) }
 {
     let next = here.depth + 1;
@@ -220,18 +197,16 @@ fn nest_call<'a>(
     let Some(begun) = entry(code, row, heap, here.base, base, args, pace.left) else {
         return None;
     };
-    calls[next] = begun.call;
-    let top = &mut calls[here.depth];
-    top.at = pace.at + 1;
-    top.wants = Wanted::InSlots {
-        to: u32::from(base),
-        count: results,
-    };
+    let callee = &mut calls[next];
+    callee.begin(begun.function, begun.closure, begun.base);
+    let caller = &mut calls[here.depth];
+    caller.wait(pace.at + 1, base, results);
     Some(Active {
         depth: next,
-        base: begun.call.base,
-        closure: begun.call.closure,
-        routine: begun.routine,
+        function: begun.function,
+        closure: begun.closure,
+        base: begun.base,
+        ops: begun.ops,
         pace: Pace {
             at: 0,
             left: begun.left,
@@ -260,10 +235,10 @@ fn nest_return<'a>(
     count: u16,
     pace: Pace,
 ) -> Option<Active<'a>>
-    requires ready { Ready code.now calls.now row.old here.depth here.base here.closure here.routine.now here.pace.at }
+    requires ready { Ready code.now _heap.now.closures calls.now row.old here.depth here.function here.closure here.base here.ops.now here.pace.at }
     requires values { here.base + from + count ≤ length row.old }
     ensures nests { IfSome result (λ a. Nests code.now _heap.now.closures (op.Return from count) calls.now here.entry.depth row.old pace calls.now a.depth row.new a.pace) }
-    ensures ready { IfSome result (λ a. Ready code.now calls.now row.new a.depth a.base a.closure a.routine.now a.pace.at) }
+    ensures ready { IfSome result (λ a. Ready code.now _heap.now.closures calls.now row.new a.depth a.function a.closure a.base a.ops.now a.pace.at) }
     ensures none { IfNone result (row.new ≡ row.old) }
 {
     if here.depth == 0 {
@@ -272,15 +247,17 @@ fn nest_return<'a>(
     let depth = here.depth - 1;
     let caller = &calls[depth];
     let routine = function_there(code, caller.function);
-    let place = here.base as usize + from as usize;
-    if !hand_down(row, caller.wants, caller.base, place, count) {
+    let place = here.base + from as usize;
+    let to = caller.base + caller.to as usize;
+    if !hand_down(row, to, caller.count, place, count) {
         return None;
     }
     Some(Active {
         depth,
-        base: caller.base,
+        function: caller.function,
         closure: caller.closure,
-        routine,
+        base: caller.base,
+        ops: routine.ops(),
         pace: Pace {
             at: caller.at,
             left: pace.left,
@@ -299,12 +276,11 @@ fn nest_pass<'a>(
     reached: Reached,
 ) -> Option<Active<'a>>
     requires valid { IsValid code.now }
-    requires ready { Ready code.now calls.old row.old here.depth here.base here.closure here.routine.now here.pace.at }
-    requires fits { Fits code.now here.routine.now reached.pace.at reached.op }
+    requires ready { Ready code.now heap.now.closures calls.old row.old here.depth here.function here.closure here.base here.ops.now here.pace.at }
+    requires reaches { Reaches reached.pass here.base (length row.old) reached.pace.at (length here.ops.now) }
     requires pass { IsPass reached.pass reached.op }
-    requires place { reached.pace.at < usize.MAX }
     ensures nests { IfSome result (λ a. Nests code.now heap.now.closures reached.op calls.old here.entry.depth row.old reached.pace calls.new a.depth row.new a.pace) }
-    ensures ready { IfSome result (λ a. Ready code.now calls.new row.new a.depth a.base a.closure a.routine.now a.pace.at) }
+    ensures ready { IfSome result (λ a. Ready code.now heap.now.closures calls.new row.new a.depth a.function a.closure a.base a.ops.now a.pace.at) }
     ensures none { IfNone result ((calls.new ≡ calls.old) × (row.new ≡ row.old)) }
 {
     let pace = reached.pace;
@@ -330,7 +306,7 @@ pub fn nest<'a>(
     start: Active<'a>,
 ) -> NestEnd
     requires valid { IsValid code.now }
-    requires ready { Ready code.now calls.old row.old start.depth start.base start.closure start.routine.now start.pace.at }
+    requires ready { Ready code.now heap.old.closures calls.old row.old start.depth start.function start.closure start.base start.ops.now start.pace.at }
     ensures ran { Nested code.now heap.old.closures calls.old start.entry.depth row.old heap.old.cells start.entry.pace calls.new result.depth row.new heap.new.cells result.reached.pace }
     ensures within { result.depth < length calls.new }
     ensures op { op_at code.now (call_at calls.new result.depth).function result.reached.pace.at ≡ Some result.reached.op }

@@ -1,6 +1,3 @@
-ghost use Rattle.std.specs.Prelude.{◌≡◌};
-ghost use Rattle.lua_machine.specs.Quick.{next_of, pass_of};
-
 use lua_code::Op;
 
 /// Where a run of quick operations stands: the operation that comes next, and the ticks that are left.
@@ -27,15 +24,6 @@ pub struct Reached {
     pub pass: Pass,
 }
 
-/// What comes of an operation.
-#[derive(Clone, Copy)]
-pub enum Tried {
-    /// It is quick. If it comes to no stop, it leads to this pace.
-    Quick(Option<Pace>),
-    /// It is not.
-    Slow(Pass),
-}
-
 /// Where a stretch of quick operations, calls and returns came to: the depth of the frame that runs, or that waits for the first of so many
 /// inner calls, whose last one runs; and the pace.
 #[derive(Clone, Copy)]
@@ -50,28 +38,4 @@ pub struct Halt {
 pub struct Hurry {
     pub inner: usize,
     pub left: u64,
-}
-
-impl Tried {
-    /// The pace that it leads to, if it is quick and comes to no stop.
-    #[inline(always)]
-    pub fn next(self) -> Option<Pace>
-        ensures { result ≡ next_of self }
-    {
-        match self {
-            Tried::Quick(next) => next,
-            Tried::Slow(_) => None,
-        }
-    }
-
-    /// The call or return that it is.
-    #[inline(always)]
-    pub fn pass(self) -> Pass
-        ensures { result ≡ pass_of self }
-    {
-        match self {
-            Tried::Quick(_) => Pass::Neither,
-            Tried::Slow(pass) => pass,
-        }
-    }
 }

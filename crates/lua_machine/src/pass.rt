@@ -24,7 +24,8 @@ use lua_value::Value;
 
 /// Whether a body can begin with so many arguments at a place of the row, which is so long, and so many ticks.
 #[inline(always)]
-pub fn fits(shape: Shape, args: u16, place: u32, long: usize, left: u64) -> bool
+pub fn fits(shape: Shape, args: u16, place: usize, long: usize, left: u64) -> bool
+    requires { place ≤ long }
     ensures { FitsIf result shape args place long left }
 {
     if shape.has_dots {
@@ -33,7 +34,7 @@ pub fn fits(shape: Shape, args: u16, place: u32, long: usize, left: u64) -> bool
     if args < shape.params {
         return false;
     }
-    if long < place as usize + room(shape) {
+    if long - place < room(shape) {
         return false;
     }
     left >= u64::from(shape.pay)
@@ -109,7 +110,8 @@ fn pass_call(
         return None;
     };
     let shape = function.shape();
-    if !fits(shape, args, place, row.len(), pace.left) {
+    let from = place as usize;
+    if row.len() < from || !fits(shape, args, from, row.len(), pace.left) {
         return None;
     }
     let wants = Wanted::InSlots {

@@ -1,18 +1,19 @@
 //! Operations that touch slots, cells, the place and ticks alone. A run of them keeps the place and the ticks in hand, and makes no call.
 
-ghost use Rattle.std.specs.Prelude.{◌≡◌, ◌+◌, ◌≤◌, ◌<◌, length, IfSome, IfNone, OnSome, Some, slice_get, slice_set};
+ghost use Rattle.std.specs.Prelude.{◌≡◌, ◌+◌, ◌≤◌, ◌<◌, length, IfSome, IfNone, OnSome, Some, None, slice_get, slice_set};
 ghost use Rattle.lua_value.specs.declared.value.Value.TheVariants as value;
 ghost use Rattle.lua_value.specs.Lists.{value_at};
 ghost use Rattle.lua_model.specs.declared.operator.Binary.TheVariants as binary_op;
 ghost use Rattle.lua_code.specs.declared.op.Op.TheVariants as op;
+ghost use Rattle.lua_machine.specs.declared.pace.Pass.TheVariants as pass;
 ghost use Rattle.lua_code.specs.Valid.{IsValid};
 ghost use Rattle.lua_steps.specs.Exec.{cell_of};
-ghost use Rattle.lua_machine.specs.Nests.{own_in, ups_in};
-ghost use Rattle.lua_machine.specs.Quick.{Quick, OnSlots, Within, Near, IsGiven, IsOfSlots, IsOfInt, IsTestOfSlots, IsTestOfInt, Turns, Gives, Ran, Led, IsPass, next_of, pass_of};
+ghost use Rattle.lua_machine.specs.Nests.{own_in, ups_in, IsThere, Runnable};
+ghost use Rattle.lua_machine.specs.Quick.{Quick, OnSlots, Within, Near, IsGiven, IsOfSlots, IsOfInt, IsTestOfSlots, IsTestOfInt, Turns, Gives, Ran, Led, IsPass};
 
 use crate::call_info::Owner;
-use crate::cells::{closure_cells, own_of, put_in_cell, up_of};
-use crate::pace::{Pace, Pass, Reached, Tried};
+use crate::cells::{cells_there, own_of, put_in_cell, up_of};
+use crate::pace::{Pace, Pass, Reached};
 use crate::slots::{
     after, chooses, computed, gives, long, pays, put_turn, short, slot, slot_after, tiny,
 };
@@ -361,313 +362,353 @@ fn reads_up(
 ) -> Option<Pace>
     requires slot { to < length row.old }
     requires place { pace.at < usize.MAX }
+    requires there { IsThere owner heap.now.closures }
     ensures ok { IfSome result (λ p. Gives row.old pace to (value_at heap.now.cells (cell_of (ups_in owner.entry heap.now.closures) i)) row.new p) }
     ensures place { IfSome result (λ p. p.at ≡ pace.at + 1) }
     ensures none { IfNone result (row.new ≡ row.old) }
 {
     match owner {
         Owner::Frame(frame) => reads(row, heap, frame.up_cells(), to, i, pace),
-        Owner::Closure(closure) => reads(row, heap, closure_cells(heap, closure), to, i, pace),
+        Owner::Closure(closure) => reads(row, heap, cells_there(heap, closure), to, i, pace),
     }
 }
 
-/// One operation, if it is quick and comes to no stop. Of the heap it touches the cells alone. There are so many operations. `INNER` tells
-/// the copy for inner calls from that for frames, so that both are put in line.
-#[tactic(auto, using(crate::proofs::QuickLemmas::lifts, crate::proofs::QuickLemmas::lifts_some, crate::proofs::QuickLemmas::none_more))]
+/// The pace that an operation leads to, if it comes to no stop; else it stays.
+#[inline(always)]
+fn kept(next: Option<Pace>, pace: &mut Pace) -> Option<Pass>
+    ensures goes { IfNone result (next ≡ Some pace.new) }
+    ensures stays { IfSome result (λ p. (p ≡ pass.Neither) × (pace.new ≡ pace.old) × (next ≡ None)) }
+{
+    let Some(next) = next else {
+        return Some(Pass::Neither);
+    };
+    *pace = next;
+    None
+}
+
+/// One operation. Where it is quick and comes to no stop, the pace moves on; else all stays as it was, and the call or return that it is is
+/// answered. Of the heap it touches the cells alone. There are so many operations. `INNER` tells the copy for inner calls from that for
+/// frames, so that both are put in line.
+#[tactic(auto, using(crate::proofs::QuickLemmas::lifts, crate::proofs::QuickLemmas::lifts_kept, crate::proofs::QuickLemmas::kept_next, crate::proofs::QuickLemmas::kept_near, crate::proofs::QuickLemmas::stays_more))]
 #[inline(always)]
 fn quick<const INNER: bool>(
     op: &Op,
     row: &mut [Value],
     heap: &mut Heap,
     owner: Owner,
-    pace: Pace,
+    pace: &mut Pace,
     _count: usize,
-) -> Tried
+) -> Option<Pass>
     requires within { Within (length row.old) op.now }
-    requires near { Near _count pace.at op.now }
-    requires place { pace.at < _count }
-    ensures ok { IfSome (next_of result) (λ p. Quick op.now (own_in owner.entry) (ups_in owner.entry heap.old.closures) row.old heap.old.cells pace row.new heap.new.cells p) }
-    ensures place { IfSome (next_of result) (λ p. p.at < _count) }
-    ensures none { IfNone (next_of result) ((row.new ≡ row.old) × (heap.new ≡ heap.old)) }
-    ensures pass { IsPass (pass_of result) op.now }
+    requires near { Near _count pace.old.at op.now }
+    requires place { pace.old.at < _count }
+    requires there { IsThere owner heap.old.closures }
+    ensures ok { IfNone result (Quick op.now (own_in owner.entry) (ups_in owner.entry heap.old.closures) row.old heap.old.cells pace.old row.new heap.new.cells pace.new) }
+    ensures place { IfNone result (pace.new.at < _count) }
+    ensures stays { IfSome result (λ p. (row.new ≡ row.old) × (heap.new ≡ heap.old) × (pace.new ≡ pace.old)) }
+    ensures pass { IfSome result (λ p. IsPass p op.now) }
     ensures heap { heap.new ≡ record heap.old { cells = heap.new.cells } }
 {
     match *op {
-        Op::Nil { to } => Tried::Quick(Some(given(*op, row, to, Value::Nil, pace))),
-        Op::Bool { to, value } => Tried::Quick(Some(given(*op, row, to, Value::Bool(value), pace))),
-        Op::Int { to, value } => Tried::Quick(Some(constant(*op, row, to, value, pace))),
-        Op::Move { to, from } => Tried::Quick(Some(moves(*op, row, to, from, pace))),
-        Op::Add { to, left, right } => Tried::Quick(of_slots(
-            *op,
-            Binary::Add,
-            row,
-            u16::from(to),
-            u16::from(left),
-            u16::from(right),
+        Op::Nil { to } => {
+            *pace = given(*op, row, to, Value::Nil, *pace);
+            None
+        }
+        Op::Bool { to, value } => {
+            *pace = given(*op, row, to, Value::Bool(value), *pace);
+            None
+        }
+        Op::Int { to, value } => {
+            *pace = constant(*op, row, to, value, *pace);
+            None
+        }
+        Op::Move { to, from } => {
+            *pace = moves(*op, row, to, from, *pace);
+            None
+        }
+        Op::Add { to, left, right } => kept(
+            of_slots(
+                *op,
+                Binary::Add,
+                row,
+                u16::from(to),
+                u16::from(left),
+                u16::from(right),
+                *pace,
+            ),
             pace,
-        )),
-        Op::Sub { to, left, right } => Tried::Quick(of_slots(
-            *op,
-            Binary::Sub,
-            row,
-            u16::from(to),
-            u16::from(left),
-            u16::from(right),
+        ),
+        Op::Sub { to, left, right } => kept(
+            of_slots(
+                *op,
+                Binary::Sub,
+                row,
+                u16::from(to),
+                u16::from(left),
+                u16::from(right),
+                *pace,
+            ),
             pace,
-        )),
-        Op::Mul { to, left, right } => Tried::Quick(of_slots(
-            *op,
-            Binary::Mul,
-            row,
-            u16::from(to),
-            u16::from(left),
-            u16::from(right),
+        ),
+        Op::Mul { to, left, right } => kept(
+            of_slots(
+                *op,
+                Binary::Mul,
+                row,
+                u16::from(to),
+                u16::from(left),
+                u16::from(right),
+                *pace,
+            ),
             pace,
-        )),
-        Op::AddInt { to, left, value } => Tried::Quick(of_int(
-            *op,
-            Binary::Add,
-            row,
-            u16::from(to),
-            u16::from(left),
-            value,
+        ),
+        Op::AddInt { to, left, value } => kept(
+            of_int(
+                *op,
+                Binary::Add,
+                row,
+                u16::from(to),
+                u16::from(left),
+                value,
+                *pace,
+            ),
             pace,
-        )),
-        Op::MulInt { to, left, value } => Tried::Quick(of_int(
-            *op,
-            Binary::Mul,
-            row,
-            u16::from(to),
-            u16::from(left),
-            value,
+        ),
+        Op::MulInt { to, left, value } => kept(
+            of_int(
+                *op,
+                Binary::Mul,
+                row,
+                u16::from(to),
+                u16::from(left),
+                value,
+                *pace,
+            ),
             pace,
-        )),
+        ),
         Op::Binary {
             op: o,
             to,
             left,
             right,
-        } => Tried::Quick(of_slots(*op, o, row, to, left, right, pace)),
-        Op::BinaryInt {
-            op: Binary::Sub,
-            to,
-            left,
-            value,
-        } => Tried::Quick(of_int(
-            *op,
-            Binary::Sub,
-            row,
-            u16::from(to),
-            u16::from(left),
-            value,
-            pace,
-        )),
+        } => kept(of_slots(*op, o, row, to, left, right, *pace), pace),
         Op::BinaryInt {
             op: o,
             to,
             left,
             value,
-        } => Tried::Quick(of_int(*op, o, row, u16::from(to), u16::from(left), value, pace)),
-        Op::Tick { pay } => Tried::Quick(pays_on(*op, row, pay, pace)),
-        Op::Jump { at } => Tried::Quick(Some(Pace {
-            at: at as usize,
-            left: pace.left,
-        })),
-        Op::Loop { pay, ref at } => Tried::Quick(pays_and_jumps(*op, row, pay, at, pace)),
-        Op::Test { from, ref at } => Tried::Quick(tests(*op, row, from, at, pace, _count)),
-        Op::TestNot { from, ref at } => Tried::Quick(Some(tests_not(
-            *op, row, from, at, pace, _count,
-        ))),
+        } => kept(
+            of_int(*op, o, row, u16::from(to), u16::from(left), value, *pace),
+            pace,
+        ),
+        Op::Tick { pay } => kept(pays_on(*op, row, pay, *pace), pace),
+        Op::Jump { at } => {
+            pace.at = at as usize;
+            None
+        }
+        Op::Loop { pay, ref at } => kept(pays_and_jumps(*op, row, pay, at, *pace), pace),
+        Op::Test { from, ref at } => kept(tests(*op, row, from, at, *pace, _count), pace),
+        Op::TestNot { from, ref at } => {
+            *pace = tests_not(*op, row, from, at, *pace, _count);
+            None
+        }
         Op::UnlessLess {
             left,
             right,
             pay,
             ref at,
-        } => Tried::Quick(test_of_slots(
-            *op,
-            Binary::Less,
-            row,
-            left,
-            right,
-            pay,
-            at,
+        } => kept(
+            test_of_slots(*op, Binary::Less, row, left, right, pay, at, *pace, _count),
             pace,
-            _count,
-        )),
+        ),
         Op::UnlessLessEqual {
             left,
             right,
             pay,
             ref at,
-        } => Tried::Quick(test_of_slots(
-            *op,
-            Binary::LessEqual,
-            row,
-            left,
-            right,
-            pay,
-            at,
+        } => kept(
+            test_of_slots(
+                *op,
+                Binary::LessEqual,
+                row,
+                left,
+                right,
+                pay,
+                at,
+                *pace,
+                _count,
+            ),
             pace,
-            _count,
-        )),
+        ),
         Op::UnlessEqual {
             left,
             right,
             pay,
             ref at,
-        } => Tried::Quick(test_of_slots(
-            *op,
-            Binary::Equal,
-            row,
-            left,
-            right,
-            pay,
-            at,
+        } => kept(
+            test_of_slots(*op, Binary::Equal, row, left, right, pay, at, *pace, _count),
             pace,
-            _count,
-        )),
+        ),
         Op::UnlessNotEqual {
             left,
             right,
             pay,
             ref at,
-        } => Tried::Quick(test_of_slots(
-            *op,
-            Binary::NotEqual,
-            row,
-            left,
-            right,
-            pay,
-            at,
+        } => kept(
+            test_of_slots(
+                *op,
+                Binary::NotEqual,
+                row,
+                left,
+                right,
+                pay,
+                at,
+                *pace,
+                _count,
+            ),
             pace,
-            _count,
-        )),
+        ),
         Op::UnlessLessInt {
             left,
             value,
             pay,
             ref at,
-        } => Tried::Quick(test_of_int(
-            *op,
-            Binary::Less,
-            row,
-            u16::from(left),
-            value,
-            pay,
-            at,
+        } => kept(
+            test_of_int(
+                *op,
+                Binary::Less,
+                row,
+                u16::from(left),
+                value,
+                pay,
+                at,
+                *pace,
+                _count,
+            ),
             pace,
-            _count,
-        )),
+        ),
         Op::UnlessLessEqualInt {
             left,
             value,
             pay,
             ref at,
-        } => Tried::Quick(test_of_int(
-            *op,
-            Binary::LessEqual,
-            row,
-            u16::from(left),
-            value,
-            pay,
-            at,
+        } => kept(
+            test_of_int(
+                *op,
+                Binary::LessEqual,
+                row,
+                u16::from(left),
+                value,
+                pay,
+                at,
+                *pace,
+                _count,
+            ),
             pace,
-            _count,
-        )),
+        ),
         Op::UnlessGreaterInt {
             left,
             value,
             pay,
             ref at,
-        } => Tried::Quick(test_of_int(
-            *op,
-            Binary::Greater,
-            row,
-            u16::from(left),
-            value,
-            pay,
-            at,
+        } => kept(
+            test_of_int(
+                *op,
+                Binary::Greater,
+                row,
+                u16::from(left),
+                value,
+                pay,
+                at,
+                *pace,
+                _count,
+            ),
             pace,
-            _count,
-        )),
+        ),
         Op::UnlessGreaterEqualInt {
             left,
             value,
             pay,
             ref at,
-        } => Tried::Quick(test_of_int(
-            *op,
-            Binary::GreaterEqual,
-            row,
-            u16::from(left),
-            value,
-            pay,
-            at,
+        } => kept(
+            test_of_int(
+                *op,
+                Binary::GreaterEqual,
+                row,
+                u16::from(left),
+                value,
+                pay,
+                at,
+                *pace,
+                _count,
+            ),
             pace,
-            _count,
-        )),
+        ),
         Op::UnlessEqualInt {
             left,
             value,
             pay,
             ref at,
-        } => Tried::Quick(test_of_int(
-            *op,
-            Binary::Equal,
-            row,
-            u16::from(left),
-            value,
-            pay,
-            at,
+        } => kept(
+            test_of_int(
+                *op,
+                Binary::Equal,
+                row,
+                u16::from(left),
+                value,
+                pay,
+                at,
+                *pace,
+                _count,
+            ),
             pace,
-            _count,
-        )),
+        ),
         Op::UnlessNotEqualInt {
             left,
             value,
             pay,
             ref at,
-        } => Tried::Quick(test_of_int(
-            *op,
-            Binary::NotEqual,
-            row,
-            u16::from(left),
-            value,
-            pay,
-            at,
+        } => kept(
+            test_of_int(
+                *op,
+                Binary::NotEqual,
+                row,
+                u16::from(left),
+                value,
+                pay,
+                at,
+                *pace,
+                _count,
+            ),
             pace,
-            _count,
-        )),
-        Op::ForLoop { pay, base, ref at } => Tried::Quick(next_turn(
-            row, pay, base, at, pace, _count,
-        )),
-        Op::GetCell { to, cell } => Tried::Quick(reads_own(row, heap, owner, to, cell, pace)),
-        Op::GetUp { to, up } => Tried::Quick(reads_up(row, heap, owner, to, up, pace)),
+        ),
+        Op::ForLoop { pay, base, ref at } => kept(
+            next_turn(row, pay, base, at, *pace, _count),
+            pace,
+        ),
+        Op::GetCell { to, cell } => kept(reads_own(row, heap, owner, to, cell, *pace), pace),
+        Op::GetUp { to, up } => kept(reads_up(row, heap, owner, to, up, *pace), pace),
         Op::SetCell { cell, from } => {
             put_in_cell(heap, own_of(owner, cell), slot(row, from));
-            Tried::Quick(Some(Pace {
-                at: pace.at + 1,
-                left: pace.left,
-            }))
+            pace.at += 1;
+            None
         }
         Op::SetUp { up, from } => {
             put_in_cell(heap, up_of(heap, owner, up), slot(row, from));
-            Tried::Quick(Some(Pace {
-                at: pace.at + 1,
-                left: pace.left,
-            }))
+            pace.at += 1;
+            None
         }
         Op::Call {
             base,
             args,
             results,
-        } => Tried::Slow(Pass::Call {
+        } => Some(Pass::Call {
             base,
             args,
             results,
         }),
-        Op::Return { from, count } => Tried::Slow(Pass::Return { from, count }),
-        _ => Tried::Slow(Pass::Neither),
+        Op::Return { from, count } => Some(Pass::Return { from, count }),
+        _ => Some(Pass::Neither),
     }
 }
 
@@ -685,36 +726,33 @@ fn fetch(ops: &[Op], at: usize) -> &Op
 pub fn block<const INNER: bool>(
     code: &[Function],
     _function: u64,
-    routine: &Function,
+    ops: &[Op],
     row: &mut [Value],
     heap: &mut Heap,
     owner: Owner,
     start: Pace,
 ) -> Reached
     requires valid { IsValid code.now }
-    requires routine { slice_get code.now _function ≡ Some routine.now }
-    requires slots { routine.now.shape.slots ≤ length row.old }
-    requires place { start.at < length routine.now.ops }
+    requires runs { Runnable code.now _function ops.now 0 (length row.old) }
+    requires place { start.at < length ops.now }
+    requires there { IsThere owner heap.old.closures }
     ensures ran { Ran code.now _function (own_in owner.entry) (ups_in owner.entry heap.old.closures) row.old heap.old.cells start row.new heap.new.cells result.pace }
-    ensures op { slice_get routine.now.ops result.pace.at ≡ Some result.op }
+    ensures op { slice_get ops.now result.pace.at ≡ Some result.op }
     ensures pass { IsPass result.pass result.op }
     ensures place { result.pace.at < usize.MAX }
     ensures heap { heap.new ≡ record heap.old { cells = heap.new.cells } }
 {
     law_measure_falls();
-    let ops = routine.ops();
     let mut pace = start;
     'quick: loop {
         let op = fetch(ops, pace.at);
-        let tried = quick::<INNER>(op, row, heap, owner, pace, ops.len());
-        let Some(next) = tried.next() else {
+        if let Some(pass) = quick::<INNER>(op, row, heap, owner, &mut pace, ops.len()) {
             return Reached {
                 pace,
                 op: *op,
-                pass: tried.pass(),
+                pass,
             };
-        };
-        pace = next;
+        }
     }
 }
 
@@ -723,7 +761,7 @@ pub fn block<const INNER: bool>(
 pub fn block_at<const INNER: bool>(
     code: &[Function],
     _function: u64,
-    routine: &Function,
+    ops: &[Op],
     row: &mut [Value],
     base: usize,
     heap: &mut Heap,
@@ -731,15 +769,15 @@ pub fn block_at<const INNER: bool>(
     start: Pace,
 ) -> Reached
     requires valid { IsValid code.now }
-    requires routine { slice_get code.now _function ≡ Some routine.now }
-    requires slots { base + routine.now.shape.slots ≤ length row.old }
-    requires place { start.at < length routine.now.ops }
+    requires runs { Runnable code.now _function ops.now base (length row.old) }
+    requires place { start.at < length ops.now }
+    requires there { IsThere owner heap.old.closures }
     ensures led { Led code.now _function (own_in owner.entry) (ups_in owner.entry heap.old.closures) base row.old heap.old.cells start row.new heap.new.cells result.pace }
-    ensures op { slice_get routine.now.ops result.pace.at ≡ Some result.op }
+    ensures op { slice_get ops.now result.pace.at ≡ Some result.op }
     ensures pass { IsPass result.pass result.op }
     ensures place { result.pace.at < usize.MAX }
     ensures heap { heap.new ≡ record heap.old { cells = heap.new.cells } }
 {
     let (_before, slots) = row.split_at_mut(base);
-    block::<INNER>(code, _function, routine, slots, heap, owner, start)
+    block::<INNER>(code, _function, ops, slots, heap, owner, start)
 }

@@ -60,16 +60,6 @@ pub fn value_at(values: &[Value], place: usize) -> Value
     }
 }
 
-/// A value goes to a place of a list, if it is there.
-#[inline(always)]
-pub fn put_at(values: &mut [Value], place: usize, value: Value)
-    ensures { values.new ≡ slice_set values.old place value }
-{
-    if place < values.len() {
-        values[place] = value;
-    }
-}
-
 /// The same value, whose integer has 64 bits.
 fn narrow(value: Value) -> Value
     ensures is { result ≡ value }

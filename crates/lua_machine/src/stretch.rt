@@ -20,7 +20,7 @@ use lua_value::Value;
 
 /// Quick operations of the frame at a depth, if the row has its slots.
 #[inline(always)]
-fn hurry(
+fn hasten(
     code: &[Function],
     frames: &[Frame],
     depth: usize,
@@ -43,13 +43,14 @@ fn hurry(
     };
     let base = top.base as usize;
     let end = base + routine.shape().slots as usize;
-    if start.at >= routine.ops().len() || row.len() < end {
+    let ops = routine.ops();
+    if start.at >= ops.len() || row.len() < end {
         return None;
     }
     Some(block_at::<false>(
         code,
         top.function,
-        routine,
+        ops,
         row,
         base,
         heap,
@@ -82,7 +83,7 @@ pub fn stretch(
         pace: start,
     };
     'frames: loop {
-        let Some(reached) = hurry(code, frames, here.depth, row, heap, here.pace) else {
+        let Some(reached) = hasten(code, frames, here.depth, row, heap, here.pace) else {
             return here;
         };
         let Some(next) = pass(code, frames, here.depth, calls, row, heap, reached) else {

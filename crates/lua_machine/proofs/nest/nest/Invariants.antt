@@ -5,7 +5,7 @@ use Rattle.lua_machine.proofs.nest.nest.Given as goal
 
 abbrev pub invariant-calls : goal.invariant-calls
 invariant-calls l = record {
-  ready : Ready l.code l.calls l.row l.here.depth l.here.base l.here.closure l.here.routine.now l.here.pace.at;
+  ready : Ready l.code l.heap.closures l.calls l.row l.here.depth l.here.function l.here.closure l.here.base l.here.ops.now l.here.pace.at;
   ran : Nested l.code l.fn.heap.closures l.fn.calls l.fn.start.depth l.fn.row l.fn.heap.cells l.fn.start.pace l.calls l.here.depth l.row l.heap.cells l.here.pace;
   heap : l.heap ≡ record l.fn.heap { cells = l.heap.cells };
 }

@@ -7,7 +7,6 @@ use Rattle.lua_machine.proofs.quick.block.Given as goal
 
 abbrev pub invariant-quick : goal.invariant-quick
 invariant-quick g l = record {
-  ops : l.ops ≡ l.routine.ops;
   place : l.pace.at < length l.ops;
   ran : Ran l.code l._function (own_in l.owner) (ups_in l.owner l.fn.heap.closures) l.fn.row l.fn.heap.cells l.fn.start l.row l.heap.cells l.pace;
   heap : l.heap ≡ record l.fn.heap { cells = l.heap.cells };

@@ -7,8 +7,9 @@ use Rattle.lua_steps.specs.Moves.{next}
 use Rattle.lua_steps.specs.Exec.{perform}
 use Rattle.lua_follow.specs.Follows.{NarrowAt}
 use Rattle.lua_machine.specs.Nests.{own_in, ups_in}
-use Rattle.lua_machine.specs.Quick.{around, in_hand}
-use Rattle.lua_machine.proofs.QuickLemmas.{value_after, some_map}
+use Rattle.lua_machine.specs.declared.pace.Pace.{Pace}
+use Rattle.lua_machine.specs.Quick.{around, in_hand, Quick}
+use Rattle.lua_machine.proofs.QuickLemmas.{value_after, some_map, kept}
 use Rattle.lua_machine.proofs.quick.quick.Goals as goal
 
 pub returns-in-GetCell-clause-ok : goal.returns-in-GetCell-clause-ok
@@ -16,24 +17,26 @@ returns-in-GetCell-clause-ok g c =
     let cells = c.args.heap.now.cells in
     let own = own_in c.args.owner in
     let ups = ups_in c.args.owner c.args.heap.now.closures in
-    some_map c.reads_own.result _ _ (λ p h. record {
+    kept c.reads_own.result c.kept-in-GetCell.result c.kept-in-GetCell.new.pace (λ (p : Pace). Quick c.args.op.now own ups c.args.row.now cells c.args.pace.now c.reads_own.new.row cells p) c.kept-in-GetCell.ensures.goes
+    (some_map c.reads_own.result _ _ (λ p h. record {
       is = λ code f before m.
           let g = around f own ups before m in
-          ap (λ (o : Op). perform code o (in_hand g c.args.row.now cells c.args.pace)) c.in-GetCell.is ∙ h.is g cells;
+          ap (λ (o : Op). perform code o (in_hand g c.args.row.now cells c.args.pace.now)) c.in-GetCell.is ∙ h.is g cells;
       narrow = λ m. subst (λ (o : Op). NarrowAt (Some o) m) (sym c.in-GetCell.is) tt;
-    }) c.reads_own.ensures.ok
+    }) c.reads_own.ensures.ok)
 
 pub returns-in-GetUp-clause-ok : goal.returns-in-GetUp-clause-ok
 returns-in-GetUp-clause-ok g c =
     let cells = c.args.heap.now.cells in
     let own = own_in c.args.owner in
     let ups = ups_in c.args.owner c.args.heap.now.closures in
-    some_map c.reads_up.result _ _ (λ p h. record {
+    kept c.reads_up.result c.kept-in-GetUp.result c.kept-in-GetUp.new.pace (λ (p : Pace). Quick c.args.op.now own ups c.args.row.now cells c.args.pace.now c.reads_up.new.row cells p) c.kept-in-GetUp.ensures.goes
+    (some_map c.reads_up.result _ _ (λ p h. record {
       is = λ code f before m.
           let g = around f own ups before m in
-          ap (λ (o : Op). perform code o (in_hand g c.args.row.now cells c.args.pace)) c.in-GetUp.is ∙ h.is g cells;
+          ap (λ (o : Op). perform code o (in_hand g c.args.row.now cells c.args.pace.now)) c.in-GetUp.is ∙ h.is g cells;
       narrow = λ m. subst (λ (o : Op). NarrowAt (Some o) m) (sym c.in-GetUp.is) tt;
-    }) c.reads_up.ensures.ok
+    }) c.reads_up.ensures.ok)
 
 pub returns-in-SetCell-clause-ok : goal.returns-in-SetCell-clause-ok
 returns-in-SetCell-clause-ok g c =
@@ -41,7 +44,7 @@ returns-in-SetCell-clause-ok g c =
     let cells = c.args.heap.now.cells in
     record {
       is = λ code f before m.
-          let x = in_hand (around f (own_in c.args.owner) (ups_in c.args.owner c.args.heap.now.closures) before m) row cells c.args.pace in
+          let x = in_hand (around f (own_in c.args.owner) (ups_in c.args.owner c.args.heap.now.closures) before m) row cells c.args.pace.now in
           ap (λ (o : Op). perform code o x) c.in-SetCell.is
           ∙ ap₂ (λ (k : ℕ) (v : Value). next (record x { cells = slice_set cells k v })) (sym c.own_of.ensures) (value_after before row c.in-SetCell.from ∙ sym c.slot.ensures)
           ∙ ap (λ (cs : List Value). next (record x { cells = cs })) (sym (ap (λ (h : Contents). h.cells) c.put_in_cell.ensures));
@@ -54,7 +57,7 @@ returns-in-SetUp-clause-ok g c =
     let cells = c.args.heap.now.cells in
     record {
       is = λ code f before m.
-          let x = in_hand (around f (own_in c.args.owner) (ups_in c.args.owner c.args.heap.now.closures) before m) row cells c.args.pace in
+          let x = in_hand (around f (own_in c.args.owner) (ups_in c.args.owner c.args.heap.now.closures) before m) row cells c.args.pace.now in
           ap (λ (o : Op). perform code o x) c.in-SetUp.is
           ∙ ap₂ (λ (k : ℕ) (v : Value). next (record x { cells = slice_set cells k v })) (sym c.up_of.ensures) (value_after before row c.in-SetUp.from ∙ sym c.slot-in-SetUp.ensures)
           ∙ ap (λ (cs : List Value). next (record x { cells = cs })) (sym (ap (λ (h : Contents). h.cells) c.put_in_cell-in-SetUp.ensures));

@@ -2,7 +2,7 @@ use Rattle.std.proofs.Common.{ap, ◌∙◌}
 use Rattle.lua_steps.specs.Machine.{Frame}
 use Rattle.lua_machine.proofs.StackLemmas.{at_any}
 use Rattle.lua_machine.proofs.StretchLemmas.{stretched_led}
-use Rattle.lua_machine.proofs.stretch.hurry.Goals as goal
+use Rattle.lua_machine.proofs.stretch.hasten.Goals as goal
 
 pub returns-clause-ran : goal.returns-clause-ran
 returns-clause-ran c =
