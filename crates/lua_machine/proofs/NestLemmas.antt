@@ -17,11 +17,13 @@ use Rattle.lua_steps.specs.Calls.{waiting, hand}
 use Rattle.lua_steps.specs.Exec.{fresh, op_at}
 use Rattle.lua_steps.specs.Measure.{total, rank, MeasureFalls}
 use Rattle.lua_machine.specs.declared.call_info.CallInfo.{CallInfo}
+use Rattle.lua_machine.specs.declared.call_info.Owner.{Owner}
+use Rattle.lua_machine.specs.declared.call_info.Owner.TheVariants as owner
 use Rattle.lua_machine.specs.declared.pace.Halt.{Halt}
 use Rattle.lua_machine.specs.declared.pace.Pace.{Pace}
 use Rattle.lua_machine.specs.declared.pace.Pass.{Pass}
 use Rattle.lua_machine.specs.declared.pace.Pass.TheVariants as pass
-use Rattle.lua_machine.specs.Nests.{cells_in, frame_of, entered, call_at, beneath, nested, over, Begins, HandedTo, Runnable, CanResume, AllResume, Ready, Reaches, Nests, Nested, Advanced}
+use Rattle.lua_machine.specs.Nests.{cells_in, function_in, IsMade, IsOwner, IsThere, frame_of, entered, call_at, beneath, nested, over, Begins, HandedTo, Runnable, CanResume, AllResume, Ready, Reaches, Nests, Nested, Advanced}
 use Rattle.lua_machine.specs.Passes.{Fits}
 use Rattle.lua_machine.specs.Stack.{Stacked, plain}
 use Rattle.lua_machine.specs.Stretch.{at_work, Stretched, Goes}
@@ -64,10 +66,18 @@ pub cells_told : (o : Option Closure) (cells : List ℕ) → Some cells ≡ opti
 cells_told None cells e = absurd (cc)
 cells_told (Some c) cells e = cc
 
-closure_there : (cs : List Closure) (k : ℕ) (c : Closure) → slice_get cs k ≡ Some c → k < length cs
-closure_there [] k c e = absurd (cc)
-closure_there (x ∷ cs) zero c e = omega arith
-closure_there (x ∷ cs) (suc k) c e = let lt = closure_there cs k c e in omega (arith, lt)
+pub function_told : (o : Option Closure) (n function : ℕ) → Some n ≡ option_map (λ (c : Closure). c.function) o → function_in o ≡ Some function → n ≡ function
+function_told None n function e made = absurd (cc)
+function_told (Some c) n function e made = cc
+
+pub made_there : (cs : List Closure) (k function : ℕ) → IsMade cs k function → k < length cs
+made_there [] k function e = absurd (cc)
+made_there (x ∷ cs) zero function e = omega arith
+made_there (x ∷ cs) (suc k) function e = let lt = made_there cs k function e in omega (arith, lt)
+
+pub owner_there : (o : Owner) (cs : List Closure) (function : ℕ) → IsOwner o cs function → IsThere o cs
+owner_there (owner.Frame f) cs function is = tt
+owner_there (owner.Closure c) cs function is = made_there cs c function is
 
 -- ---- calls
 pub begins_so : (code : Code) (cs : List Closure) (row : List Value) (from base args left k place function pay : ℕ) (c : Closure) (f : Routine) → value_at row (from + base) ≡ value.Func k → slice_get cs k ≡ Some c
@@ -90,7 +100,7 @@ begins_so code cs row from base args left k place function pay c f is_func is_cl
       passes_call code m base args results k place c f begun func closure is_routine placed fit opened
       ∙ ap (λ (n : ℕ). On (record m { top = callee; below = w; left = n - f.shape.pay })) same_left
       ∙ ap (λ (n : ℕ). On (record m { top = callee; below = w; left = left - n })) (sym is_pay);
-  there = closure_there cs k c is_closure;
+  made = ap (λ (o : Option Closure). function_in o) is_closure ∙ ap (λ (n : ℕ). Some n) (sym is_function);
 }
 
 -- a call that has not waited stands for the frame of one that begins, at its first operation
@@ -162,7 +172,7 @@ same_length : (code : Code) (cs : List Closure) (row after : List Value) (c : Ca
 same_length code cs row after c e h =
     let room : c.base + h.routine.shape.slots ≤ length row = h.room in
     let takes : c.base + c.to + c.count ≤ length row = h.takes in
-    record { there = h.there; routine = h.routine; is = h.is; room = omega (arith, e, room); place = h.place; called = h.called; takes = omega (arith, e, takes) }
+    record { made = h.made; routine = h.routine; is = h.is; room = omega (arith, e, room); place = h.place; called = h.called; takes = omega (arith, e, takes) }
 
 ready_same_length : (code : Code) (cs : List Closure) (calls : List CallInfo) (row after : List Value) (d function closure base : ℕ) (ops : List Op) (at : ℕ) → length after ≡ length row → Ready code cs calls row d function closure base ops at
     → Ready code cs calls after d function closure base ops at
@@ -171,7 +181,7 @@ ready_same_length code cs calls row after d function closure base ops at e h = r
   serves = h.serves;
   closes = h.closes;
   begins = h.begins;
-  there = h.there;
+  made = h.made;
   runs = subst (λ (n : ℕ). Runnable code function ops base n) (sym e) h.runs;
   place = h.place;
   below = record { each = λ i lt. same_length code cs row after (call_at calls i) e (h.below.each i lt) };
@@ -222,7 +232,7 @@ all_more code cs calls row d function closure base ops at next to count e w lt i
         let same_count : w.count ≡ count = ap (λ (c : CallInfo). c.count) waiting in
         let room : base + runs.routine.shape.slots ≤ length row = runs.room in
         let held : CanResume code cs row w = record {
-          there = subst (λ (n : ℕ). n < length cs) (sym closes) ready.there;
+          made = subst (λ (k : ℕ). IsMade cs k w.function) (sym closes) (subst (λ (f : ℕ). IsMade cs closure f) (sym serves) ready.made);
           routine = runs.routine;
           is = ap (λ (n : ℕ). slice_get code n) serves ∙ runs.is;
           room = omega (arith, begins, room);
@@ -235,9 +245,9 @@ all_more code cs calls row d function closure base ops at next to count e w lt i
 -- the call above it can run from its first operation on
 pub ready_above : (code : Code) (cs : List Closure) (calls : List CallInfo) (row : List Value) (d function closure base : ℕ) (ops : List Op) (at next to count : ℕ) (e w : CallInfo) (f k b : ℕ) (ps : List Op) → d + 1 < length calls → next < length ops
     → Ready code cs calls row d function closure base ops at → w ≡ record (call_at (slice_set calls (d + 1) e) d) { at = next; has_called = true; to = to; count = count } → base + to + count ≤ length row
-    → f ≡ e.function → k ≡ e.closure → b ≡ e.base → Runnable code f ps b (length row) → 0 < length ps → k < length cs
+    → f ≡ e.function → k ≡ e.closure → b ≡ e.base → Runnable code f ps b (length row) → 0 < length ps → IsMade cs k f
     → Ready code cs (slice_set (slice_set calls (d + 1) e) d w) row (d + 1) f k b ps 0
-ready_above code cs calls row d function closure base ops at next to count e w f k b ps lt is_next ready is_waiting takes serves closes begins runs some there =
+ready_above code cs calls row d function closure base ops at next to count e w f k b ps lt is_next ready is_waiting takes serves closes begins runs some made =
     let longer = slice_set calls (d + 1) e in
     let long : length longer ≡ length calls = length-set calls (d + 1) e in
     let both : length (slice_set longer d w) ≡ length longer = length-set longer d w in
@@ -248,7 +258,7 @@ ready_above code cs calls row d function closure base ops at next to count e w f
       serves = serves ∙ ap (λ (c : CallInfo). c.function) top;
       closes = closes ∙ ap (λ (c : CallInfo). c.closure) top;
       begins = begins ∙ ap (λ (c : CallInfo). c.base) top;
-      there = there;
+      made = made;
       runs = runs;
       place = some;
       below = all_more code cs calls row d function closure base ops at next to count e w lt is_next ready is_waiting takes;
@@ -256,8 +266,8 @@ ready_above code cs calls row d function closure base ops at next to count e w f
 
 -- the first inner call can, over any frame
 pub ready_first : (code : Code) (cs : List Closure) (calls : List CallInfo) (row : List Value) (e : CallInfo) (f k b : ℕ) (ps : List Op) → 0 < length calls → f ≡ e.function → k ≡ e.closure → b ≡ e.base → Runnable code f ps b (length row)
-    → 0 < length ps → k < length cs → Ready code cs (slice_set calls 0 e) row 0 f k b ps 0
-ready_first code cs calls row e f k b ps lt serves closes begins runs some there =
+    → 0 < length ps → IsMade cs k f → Ready code cs (slice_set calls 0 e) row 0 f k b ps 0
+ready_first code cs calls row e f k b ps lt serves closes begins runs some made =
     let long : length (slice_set calls 0 e) ≡ length calls = length-set calls 0 e in
     let top : e ≡ call_at (slice_set calls 0 e) 0 = sym (get_or-set_same calls 0 e no_call lt) in
     record {
@@ -265,7 +275,7 @@ ready_first code cs calls row e f k b ps lt serves closes begins runs some there
       serves = serves ∙ ap (λ (c : CallInfo). c.function) top;
       closes = closes ∙ ap (λ (c : CallInfo). c.closure) top;
       begins = begins ∙ ap (λ (c : CallInfo). c.base) top;
-      there = there;
+      made = made;
       runs = runs;
       place = some;
       below = none_below code cs (slice_set calls 0 e) row;
@@ -289,7 +299,7 @@ resumed code cs calls row after d e f ops lt within same below is has =
       serves = refl;
       closes = refl;
       begins = refl;
-      there = back.there;
+      made = back.made;
       runs = record { routine = f; is = is; has = has; room = subst (λ (g : Routine). (call_at calls e).base + g.shape.slots ≤ length after) routine room };
       place = subst (λ (xs : List Op). (call_at calls e).at < length xs) (sym has) (subst (λ (g : Routine). (call_at calls e).at < length g.ops) routine back.place);
       below = all_fewer code cs calls row after d e (omega (arith, lt)) same below;

@@ -11,14 +11,14 @@ use Rattle.lua_code.specs.Routine.{Routine}
 use Rattle.lua_code.specs.Valid.{Fits, IsValid}
 use Rattle.lua_steps.specs.Machine.{Code, Machine, On}
 use Rattle.lua_steps.specs.Moves.{written}
-use Rattle.lua_steps.specs.Exec.{ops_of, op_at, perform_at, exec, opening}
+use Rattle.lua_steps.specs.Exec.{ops_of, constants_of, op_at, perform_at, exec, opening}
 use Rattle.lua_steps.specs.Measure.{total, rank, MeasureFalls}
 use Rattle.lua_follow.specs.Follows.{NarrowAt}
 use Rattle.lua_machine.specs.declared.pace.Pace.{Pace}
 use Rattle.lua_machine.specs.declared.pace.Pass.{Pass}
 use Rattle.lua_machine.specs.declared.pace.Pass.TheVariants as pass
 use Rattle.lua_machine.specs.Runs.{Runs}
-use Rattle.lua_machine.specs.Quick.{around, in_hand, placed, Quick, OnSlots, Ran, Led, Within, Near}
+use Rattle.lua_machine.specs.Quick.{around, in_hand, placed, Quick, OnSlots, Ran, Led, Within, Holds, Near}
 use Rattle.lua_machine.proofs.RunLemmas.{runs_more, runs_none}
 
 -- ---- slots behind others
@@ -45,9 +45,11 @@ written_after before row i (v ∷ vs) =
 -- ---- valid code
 pub within_fits : (code : Code) (f : Routine) (at n : ℕ) (o : Op) → Fits code f at o → f.shape.slots ≤ n → Within n o
 within_fits code f at n (op.Nil to) (p, g) le = let s : to + 1 ≤ f.shape.slots = p in omega (arith, s, le)
+within_fits code f at n (op.Constant to index) (p, i, g) le = let s : to + 1 ≤ f.shape.slots = p in omega (arith, s, le)
 within_fits code f at n (op.Bool to value) (p, g) le = let s : to + 1 ≤ f.shape.slots = p in omega (arith, s, le)
 within_fits code f at n (op.Int to value) (p, g) le = let s : to + 1 ≤ f.shape.slots = p in omega (arith, s, le)
 within_fits code f at n (op.Move to from) (p, q, g) le = let s : to + 1 ≤ f.shape.slots = p in let t : from + 1 ≤ f.shape.slots = q in (omega (arith, s, le), omega (arith, t, le))
+within_fits code f at n (op.Unary sign to from) (p, q, g) le = let s : to + 1 ≤ f.shape.slots = p in let t : from + 1 ≤ f.shape.slots = q in (omega (arith, s, le), omega (arith, t, le))
 within_fits code f at n (op.GetCell to cell) (p, j, g) le = let s : to + 1 ≤ f.shape.slots = p in omega (arith, s, le)
 within_fits code f at n (op.SetCell cell from) (c, p, g) le = let s : from + 1 ≤ f.shape.slots = p in omega (arith, s, le)
 within_fits code f at n (op.GetUp to up) (p, j, g) le = let s : to + 1 ≤ f.shape.slots = p in omega (arith, s, le)
@@ -88,11 +90,9 @@ within_fits code f at n (op.UnlessGreaterEqualInt left value pay to) (p, j, g) l
 within_fits code f at n (op.UnlessEqualInt left value pay to) (p, j, g) le = let s : left + 1 ≤ f.shape.slots = p in omega (arith, s, le)
 within_fits code f at n (op.UnlessNotEqualInt left value pay to) (p, j, g) le = let s : left + 1 ≤ f.shape.slots = p in omega (arith, s, le)
 within_fits code f at n (op.ForLoop pay base to) (p, j, g) le = let s : base + 4 ≤ f.shape.slots = p in omega (arith, s, le)
-within_fits code f at n (op.Constant to index) fits le = tt
 within_fits code f at n (op.NewCell cell from) fits le = tt
 within_fits code f at n (op.Close to function) fits le = tt
 within_fits code f at n (op.CloseCell cell function) fits le = tt
-within_fits code f at n (op.Unary sign to from) fits le = tt
 within_fits code f at n (op.Tick pay) fits le = tt
 within_fits code f at n (op.Jump to) fits le = tt
 within_fits code f at n (op.Loop pay to) fits le = tt
@@ -171,6 +171,19 @@ near_fits code f at (op.ForEach pay base to) (a, j, g) = g
 near_fits code f at (op.Return from count) fits = tt
 near_fits code f at op.ReturnList fits = tt
 
+routine_there : (code : Code) (i : ℕ) (f : Routine) → slice_get code i ≡ Some f → i < length code
+routine_there [] i f e = absurd (cc)
+routine_there (x ∷ code) zero f e = omega arith
+routine_there (x ∷ code) (suc i) f e = let lt = routine_there code i f e in omega (arith, lt)
+
+pub holds_fits : (code : Code) (i : ℕ) (f : Routine) (at : ℕ) (o : Op) → slice_get code i ≡ Some f → Fits code f at o → Holds code i o
+holds_fits code i f at o here fits = record {
+  function = λ to index e. routine_there code i f here;
+  constant = λ to index e.
+      let own : index < length f.constants = (subst (λ (x : Op). Fits code f at x) e fits).1 in
+      subst (λ (r : Option Routine). index < length (constants_of r)) (sym here) own;
+}
+
 pub fits_at : (code : Code) (i : ℕ) (f : Routine) (at : ℕ) (o : Op) → IsValid code → slice_get code i ≡ Some f → slice_get f.ops at ≡ Some o → Fits code f at o
 fits_at code i f at o valid here is = (valid.functions.each i f here).ops.fit at o is
 
@@ -206,13 +219,13 @@ stays_more next None row after h start end is e = tt
 stays_more next (Some p) row after h start end is e = (none_at next (after ≡ row) is.2 e, refl, is.1)
 
 -- ---- an operation that touches no cell
-pub lifts : (o : Op) (own ups : List ℕ) (row after cells : List Value) (pace p : Pace) → OnSlots o row pace after p → Quick o own ups row cells pace after cells p
-lifts o own ups row after cells pace p h = record { is = λ code f before m. h.is code (around f own ups before m) cells; narrow = h.narrow }
+pub lifts : (code : Code) (f : ℕ) (o : Op) (own ups : List ℕ) (row after cells : List Value) (pace p : Pace) → OnSlots o row pace after p → Quick code f o own ups row cells pace after cells p
+lifts code f o own ups row after cells pace p h = record { is = λ before m. h.is code (around f own ups before m) cells; narrow = h.narrow }
 
-pub lifts_kept : (o : Op) (own ups : List ℕ) (row after cells : List Value) (pace then_at : Pace) (next : Option Pace) (left : Option Pass)
-    → IfNone left (next ≡ Some then_at) → IfSome next (λ p. OnSlots o row pace after p) → IfNone left (Quick o own ups row cells pace after cells then_at)
-lifts_kept o own ups row after cells pace then_at next None is h = lifts o own ups row after cells pace then_at (held_at next then_at (λ (p : Pace). OnSlots o row pace after p) is h)
-lifts_kept o own ups row after cells pace then_at next (Some p) is h = tt
+pub lifts_kept : (code : Code) (f : ℕ) (o : Op) (own ups : List ℕ) (row after cells : List Value) (pace then_at : Pace) (next : Option Pace) (left : Option Pass)
+    → IfNone left (next ≡ Some then_at) → IfSome next (λ p. OnSlots o row pace after p) → IfNone left (Quick code f o own ups row cells pace after cells then_at)
+lifts_kept code f o own ups row after cells pace then_at next None is h = lifts code f o own ups row after cells pace then_at (held_at next then_at (λ (p : Pace). OnSlots o row pace after p) is h)
+lifts_kept code f o own ups row after cells pace then_at next (Some p) is h = tt
 
 -- ---- runs
 -- a machine that has nothing but what is in hand
@@ -220,13 +233,13 @@ abbrev pub bare : Machine
 bare = opening [] 0 (empty 0) 0
 
 pub stepped : (code : Code) (f : ℕ) (own ups : List ℕ) (row cells after later : List Value) (pace then_at : Pace) (o : Op) → op_at code f pace.at ≡ Some o
-    → Quick o own ups row cells pace after later then_at → (before : List Value) (m : Machine)
+    → Quick code f o own ups row cells pace after later then_at → (before : List Value) (m : Machine)
     → exec code (in_hand (around f own ups before m) row cells pace) ≡ On (in_hand (around f own ups before m) after later then_at)
 stepped code f own ups row cells after later pace then_at o is quick before m =
-    ap (λ x. perform_at x code (in_hand (around f own ups before m) row cells pace)) is ∙ quick.is code f before m
+    ap (λ x. perform_at x code (in_hand (around f own ups before m) row cells pace)) is ∙ quick.is before m
 
 pub ran_more : (code : Code) (f : ℕ) (own ups : List ℕ) (first held row cells after later : List Value) (start pace then_at : Pace) (o : Op)
-    → Ran code f own ups first held start row cells pace → op_at code f pace.at ≡ Some o → Quick o own ups row cells pace after later then_at
+    → Ran code f own ups first held start row cells pace → op_at code f pace.at ≡ Some o → Quick code f o own ups row cells pace after later then_at
     → Ran code f own ups first held start after later then_at
 ran_more code f own ups first held row cells after later start pace then_at o ran is quick = record {
   is = λ before m.
@@ -240,7 +253,7 @@ pub ran_none : (code : Code) (f : ℕ) (own ups : List ℕ) (row cells : List Va
 ran_none code f own ups row cells pace = record { is = λ before m. runs_none code (in_hand (around f own ups before m) row cells pace) }
 
 pub ran_falls : (code : Code) (f : ℕ) (own ups : List ℕ) (row cells after later : List Value) (pace then_at : Pace) (o : Op) → MeasureFalls → IsValid code
-    → op_at code f pace.at ≡ Some o → Quick o own ups row cells pace after later then_at
+    → op_at code f pace.at ≡ Some o → Quick code f o own ups row cells pace after later then_at
     → rank (total code) (in_hand (around f own ups [] bare) after later then_at) < rank (total code) (in_hand (around f own ups [] bare) row cells pace)
 ran_falls code f own ups row cells after later pace then_at o falls valid is quick =
     falls code (in_hand (around f own ups [] bare) row cells pace) (in_hand (around f own ups [] bare) after later then_at) valid

@@ -26,6 +26,11 @@ abbrev pub cells_in : Option Closure → List ℕ
 cells_in None = []
 cells_in (Some c) = c.cells
 
+-- the function of a closure, where there is one
+abbrev pub function_in : Option Closure → Option ℕ
+function_in None = None
+function_in (Some c) = Some c.function
+
 -- the cells of the closure with this number; none where the heap gave none
 abbrev pub cells_under : List Closure → ℕ → List ℕ
 cells_under cs c = cells_in (slice_get cs c)
@@ -69,7 +74,16 @@ abbrev pub ups_in : Owner → List Closure → List ℕ
 ups_in (owner.Frame f) cs = f.now.ups
 ups_in (owner.Closure c) cs = cells_under cs c
 
--- they are in the heap
+-- the heap gave this closure, of this function
+abbrev pub IsMade : List Closure → ℕ → ℕ → Type 0
+IsMade cs closure function = function_in (slice_get cs closure) ≡ Some function
+
+-- the body is one of this function
+abbrev pub IsOwner : Owner → List Closure → ℕ → Type 0
+IsOwner (owner.Frame f) cs function = f.now.function ≡ function
+IsOwner (owner.Closure c) cs function = IsMade cs c function
+
+-- its closure is in the heap
 abbrev pub IsThere : Owner → List Closure → Type 0
 IsThere (owner.Frame f) cs = Unit {0}
 IsThere (owner.Closure c) cs = c < length cs
@@ -79,7 +93,7 @@ IsThere (owner.Closure c) cs = c < length cs
 pub record Begins (code : Code) (cs : List Closure) (row : List Value) (from base args left function closure place left_over : ℕ) : Type 0 where
   pub is : (m : Machine) (results : ℕ) → m.closures ≡ cs → m.row ≡ row → m.top.base ≡ from → m.left ≡ left
       → perform code (op.Call base args results) m ≡ On (record m { top = entered cs function closure place; below = waiting (InSlots base results) m.top ∷ m.below; left = left_over })
-  pub there : closure < length cs
+  pub made : IsMade cs closure function
 
 -- so many values from a place of the row on are handed to the `n` places from `to` on, or nothing is
 abbrev pub HandedTo : Bool → ℕ → ℕ → ℕ → ℕ → List Value → List Value → Type 0
@@ -103,7 +117,7 @@ pub record Runnable (code : Code) (function : ℕ) (ops : List Op) (base long : 
 -- an inner call that waits can run on: it has a closure and a function, the row has its slots, with those that take the values, and its
 -- place is there
 pub record CanResume (code : Code) (cs : List Closure) (row : List Value) (c : CallInfo) : Type 0 where
-  pub there : c.closure < length cs
+  pub made : IsMade cs c.closure c.function
   pub routine : Routine
   pub is : slice_get code c.function ≡ Some routine
   pub room : c.base + routine.shape.slots ≤ length row
@@ -121,7 +135,7 @@ pub record Ready (code : Code) (cs : List Closure) (calls : List CallInfo) (row 
   pub serves : function ≡ (call_at calls d).function
   pub closes : closure ≡ (call_at calls d).closure
   pub begins : base ≡ (call_at calls d).base
-  pub there : closure < length cs
+  pub made : IsMade cs closure function
   pub runs : Runnable code function ops base (length row)
   pub place : at < length ops
   pub below : AllResume code cs calls row d

@@ -1,16 +1,18 @@
 -- Operations that touch slots, cells, the place and ticks alone, as a run of them has these in hand. They are this project's own.
-use Rattle.std.specs.Prelude.{◌≡◌, ℕ, ◌+◌, ◌<◌, Bool, ℤ, List, ◌++◌, length, Some}
+use Rattle.std.specs.Prelude.{◌≡◌, ℕ, ◌+◌, ◌<◌, Bool, ℤ, List, ◌++◌, length, slice_get, Option, Some}
 use Rattle.lua_value.specs.declared.value.Value.{Value}
 use Rattle.lua_value.specs.declared.value.Value.TheVariants as value
 use Rattle.lua_model.specs.declared.operator.Binary.{Binary}
+use Rattle.lua_model.specs.declared.operator.Unary.{Unary}
 use Rattle.lua_model.specs.Answer as answer
-use Rattle.lua_model.specs.Operators.{binary}
+use Rattle.lua_model.specs.Operators.{binary, unary}
 use Rattle.lua_model.specs.Texts.{Texts}
+use Rattle.lua_code.specs.declared.function.Constant.{Constant}
 use Rattle.lua_code.specs.declared.op.Op.{Op}
 use Rattle.lua_code.specs.declared.op.Op.TheVariants as op
 use Rattle.lua_steps.specs.Machine.{Code, Machine, Went, On}
 use Rattle.lua_steps.specs.Moves.{slot, gives, paid, answered}
-use Rattle.lua_steps.specs.Exec.{line, chosen, unless, perform}
+use Rattle.lua_steps.specs.Exec.{line, constants_of, constant_value, chosen, unless, perform}
 use Rattle.lua_steps.specs.Loops.{next_turn}
 use Rattle.lua_follow.specs.Follows.{NarrowAt}
 use Rattle.lua_machine.specs.declared.pace.Pace.{Pace}
@@ -40,9 +42,9 @@ in_hand g row cells pace =
 abbrev pub around : ℕ → List ℕ → List ℕ → List Value → Machine → Around
 around f own ups before m = record { function = f; own = own; ups = ups; before = before; machine = m }
 
--- an operation, which begins no numeric `for`, leads from there to there, whatever else the machine has
-pub record Quick (o : Op) (own ups : List ℕ) (row cells : List Value) (pace : Pace) (after later : List Value) (then_at : Pace) : Type 0 where
-  pub is : (code : Code) (f : ℕ) (before : List Value) (m : Machine)
+-- an operation of a function, which begins no numeric `for`, leads from there to there, whatever else the machine has
+pub record Quick (code : Code) (f : ℕ) (o : Op) (own ups : List ℕ) (row cells : List Value) (pace : Pace) (after later : List Value) (then_at : Pace) : Type 0 where
+  pub is : (before : List Value) (m : Machine)
       → perform code o (in_hand (around f own ups before m) row cells pace) ≡ On (in_hand (around f own ups before m) after later then_at)
   pub narrow : (m : Machine) → NarrowAt (Some o) m
 
@@ -77,6 +79,7 @@ abbrev pub Within : ℕ → Op → Type 0
 Within n (op.Nil to) = to < n
 Within n (op.Bool to value) = to < n
 Within n (op.Int to value) = to < n
+Within n (op.Constant to index) = to < n
 Within n (op.Move to from) = (to < n) × (from < n)
 Within n (op.GetCell to cell) = to < n
 Within n (op.SetCell cell from) = from < n
@@ -89,6 +92,7 @@ Within n (op.AddInt to left value) = (to < n) × (left < n)
 Within n (op.MulInt to left value) = (to < n) × (left < n)
 Within n (op.Binary sign to left right) = (to < n) × (left < n) × (right < n)
 Within n (op.BinaryInt sign to left value) = (to < n) × (left < n)
+Within n (op.Unary sign to from) = (to < n) × (from < n)
 Within n (op.Test from to) = from < n
 Within n (op.TestNot from to) = from < n
 Within n (op.UnlessLess left right pay to) = (left < n) × (right < n)
@@ -103,6 +107,11 @@ Within n (op.UnlessEqualInt left value pay to) = left < n
 Within n (op.UnlessNotEqualInt left value pay to) = left < n
 Within n (op.ForLoop pay base to) = base + 3 < n
 Within n _ = Unit {0}
+
+-- the constant that an operation names is one of the function's, which is there
+pub record Holds (code : Code) (f : ℕ) (o : Op) : Type 0 where
+  pub function : (to index : ℕ) → o ≡ op.Constant to index → f < length code
+  pub constant : (to index : ℕ) → o ≡ op.Constant to index → index < length (constants_of (slice_get code f))
 
 -- the places that may follow a quick operation are among so many
 abbrev pub Near : ℕ → ℕ → Op → Type 0
@@ -130,6 +139,9 @@ Near n at _ = at + 1 < n
 pub record Computes (o : Binary) (u v w : Value) : Type 0 where
   pub is : (texts : Texts) → binary texts o u v ≡ answer.Plain w
 
+pub record ComputesOne (o : Unary) (v w : Value) : Type 0 where
+  pub is : (texts : Texts) → unary texts o v ≡ answer.Plain w
+
 pub record IsGiven (op : Op) (to : ℕ) (v : Value) : Type 0 where
   pub is : (code : Code) (m : Machine) → perform code op m ≡ gives to v m
   pub narrow : (m : Machine) → NarrowAt (Some op) m
@@ -154,6 +166,10 @@ pub record IsTestOfInt (op : Op) (o : Binary) (p : ℕ) (n : ℤ) (pay to : ℕ)
 -- the next operation follows, with this value in a slot
 pub record Gives (row : List Value) (pace : Pace) (to : ℕ) (v : Value) (after : List Value) (then_at : Pace) : Type 0 where
   pub is : (g : Around) (cells : List Value) → gives to v (in_hand g row cells pace) ≡ On (in_hand g after cells then_at)
+
+-- the next operation follows, with this constant in a slot
+pub record GivesConstant (row : List Value) (pace : Pace) (to : ℕ) (k : Option Constant) (after : List Value) (then_at : Pace) : Type 0 where
+  pub is : (g : Around) (cells : List Value) → constant_value k to (in_hand g row cells pace) ≡ On (in_hand g after cells then_at)
 
 -- a choice leads from there to there
 pub record Chooses (holds : Bool) (pay to : ℕ) (pace then_at : Pace) : Type 0 where

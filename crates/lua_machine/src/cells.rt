@@ -7,7 +7,7 @@ ghost use Rattle.lua_steps.specs.Machine as steps;
 ghost use Rattle.lua_steps.specs.Moves.{next, gives, slot};
 ghost use Rattle.lua_steps.specs.Exec.{cell_of, new_cell, captured, taken, closed, close_cell, captures_of, constant_value, constant_at};
 ghost use Rattle.lua_heap.specs.Contents.{cell_written};
-ghost use Rattle.lua_machine.specs.Nests.{cells_under, own_in, ups_in, IsThere};
+ghost use Rattle.lua_machine.specs.Nests.{cells_under, own_in, ups_in, IsOwner, IsThere};
 ghost use Rattle.lua_machine.specs.Views.{says, IsClosed};
 
 use crate::call_info::Owner;
@@ -49,6 +49,18 @@ pub fn cells_there(heap: &Heap, closure: u64) -> &[u64]
     ensures { result.now ≡ cells_under heap.now.closures closure }
 {
     heap.cells_of(closure)
+}
+
+/// The function of a body.
+#[inline(always)]
+pub fn function_of(heap: &Heap, owner: Owner, _function: u64) -> u64
+    requires { IsOwner owner heap.now.closures _function }
+    ensures { result ≡ _function }
+{
+    match owner {
+        Owner::Frame(frame) => frame.function,
+        Owner::Closure(closure) => heap.function_of(closure),
+    }
 }
 
 /// One of the cells of a body's captured locals.

@@ -6,6 +6,7 @@ mod calls;
 mod cells;
 mod frame;
 mod inner;
+mod kinds;
 mod lists;
 mod loops;
 mod machine;

@@ -14,7 +14,7 @@ ghost use Rattle.lua_machine.specs.Wants.{wanted_of};
 use crate::call_info::{CallInfo, Owner};
 use crate::frame::Wanted;
 use crate::pace::{Pace, Pass, Reached};
-use crate::pass::{fits, function_at};
+use crate::pass::{fits, function_at, function_there};
 use crate::quick::block_at;
 use crate::slots::value_there;
 use lua_code::{Function, Op};
@@ -212,15 +212,6 @@ fn nest_call<'a>(
             left: begun.left,
         },
     })
-}
-
-/// The function with a number that is there.
-#[inline(always)]
-fn function_there(code: &[Function], number: u64) -> &Function
-    requires { number < length code.now }
-    ensures { slice_get code.now number ≡ Some result.now }
-{
-    &code[number as usize]
 }
 
 /// A return from one inner call to another.

@@ -48,6 +48,15 @@ pub fn function_at(code: &[Function], number: u64) -> Option<&Function>
     code.get(number as usize)
 }
 
+/// The function with a number that is there.
+#[inline(always)]
+pub fn function_there(code: &[Function], number: u64) -> &Function
+    requires { number < length code.now }
+    ensures { slice_get code.now number ≡ Some result.now }
+{
+    &code[number as usize]
+}
+
 /// A call of a closure begins in the dead frame after the one at a depth, where there is one. The one at the depth, which has come to
 /// that place, waits for its values.
 #[inline(always)]

@@ -1,377 +1,24 @@
 //! Operations that touch slots, cells, the place and ticks alone. A run of them keeps the place and the ticks in hand, and makes no call.
 
-ghost use Rattle.std.specs.Prelude.{◌≡◌, ◌+◌, ◌≤◌, ◌<◌, length, IfSome, IfNone, OnSome, Some, None, slice_get, slice_set};
-ghost use Rattle.lua_value.specs.declared.value.Value.TheVariants as value;
-ghost use Rattle.lua_value.specs.Lists.{value_at};
-ghost use Rattle.lua_model.specs.declared.operator.Binary.TheVariants as binary_op;
-ghost use Rattle.lua_code.specs.declared.op.Op.TheVariants as op;
+ghost use Rattle.std.specs.Prelude.{◌≡◌, ◌+◌, ◌<◌, length, IfSome, IfNone, Some, None, slice_get};
 ghost use Rattle.lua_machine.specs.declared.pace.Pass.TheVariants as pass;
 ghost use Rattle.lua_code.specs.Valid.{IsValid};
-ghost use Rattle.lua_steps.specs.Exec.{cell_of};
-ghost use Rattle.lua_machine.specs.Nests.{own_in, ups_in, IsThere, Runnable};
-ghost use Rattle.lua_machine.specs.Quick.{Quick, OnSlots, Within, Near, IsGiven, IsOfSlots, IsOfInt, IsTestOfSlots, IsTestOfInt, Turns, Gives, Ran, Led, IsPass};
+ghost use Rattle.lua_machine.specs.Nests.{own_in, ups_in, IsOwner, Runnable};
+ghost use Rattle.lua_machine.specs.Quick.{Quick, Within, Holds, Near, Ran, Led, IsPass};
 
 use crate::call_info::Owner;
-use crate::cells::{cells_there, own_of, put_in_cell, up_of};
-use crate::pace::{Pace, Pass, Reached};
-use crate::slots::{
-    after, chooses, computed, gives, long, pays, put_turn, short, slot, slot_after, tiny,
+use crate::cells::{function_of, own_of, put_in_cell, up_of};
+use crate::kinds::{
+    constant, constant_of, given, moves, next_turn, of_int, of_slot, of_slots, pays_and_jumps,
+    pays_on, reads_own, reads_up, test_of_int, test_of_slots, tests, tests_not,
 };
+use crate::pace::{Pace, Pass, Reached};
+use crate::slots::slot;
 use lua_code::{Function, Op};
 use lua_heap::Heap;
 use lua_model::Binary;
 use lua_steps::law_measure_falls;
 use lua_value::Value;
-
-/// A value that is known goes to a slot.
-#[inline(always)]
-fn given(_op: Op, row: &mut [Value], to: u16, value: Value, pace: Pace) -> Pace
-    requires slot { to < length row.old }
-    requires place { pace.at < usize.MAX }
-    requires op { IsGiven _op to value }
-    ensures ok { OnSlots _op row.old pace row.new result }
-    ensures place { result.at ≡ pace.at + 1 }
-{
-    gives(row, to, value, pace)
-}
-
-/// An operator on two slots.
-#[inline(always)]
-fn of_slots(
-    _op: Op,
-    o: Binary,
-    row: &mut [Value],
-    to: u16,
-    left: u16,
-    right: u16,
-    pace: Pace,
-) -> Option<Pace>
-    requires to { to < length row.old }
-    requires left { left < length row.old }
-    requires right { right < length row.old }
-    requires place { pace.at < usize.MAX }
-    requires op { IsOfSlots _op o to left right }
-    ensures ok { IfSome result (λ p. OnSlots _op row.old pace row.new p) }
-    ensures place { IfSome result (λ p. p.at ≡ pace.at + 1) }
-    ensures none { IfNone result (row.new ≡ row.old) }
-{
-    let u = slot(row, left);
-    let v = slot(row, right);
-    let Some(value) = computed(o, u, v) else {
-        return None;
-    };
-    Some(gives(row, to, value, pace))
-}
-
-/// An operator on a slot and an integer.
-#[inline(always)]
-fn of_int(
-    _op: Op,
-    o: Binary,
-    row: &mut [Value],
-    to: u16,
-    left: u16,
-    right: i32,
-    pace: Pace,
-) -> Option<Pace>
-    requires to { to < length row.old }
-    requires left { left < length row.old }
-    requires place { pace.at < usize.MAX }
-    requires op { IsOfInt _op o to left right }
-    ensures ok { IfSome result (λ p. OnSlots _op row.old pace row.new p) }
-    ensures place { IfSome result (λ p. p.at ≡ pace.at + 1) }
-    ensures none { IfNone result (row.new ≡ row.old) }
-{
-    let u = slot(row, left);
-    let v = short(right);
-    let Some(value) = computed(o, u, v) else {
-        return None;
-    };
-    Some(gives(row, to, value, pace))
-}
-
-/// A comparison of two slots.
-#[inline(always)]
-fn test_of_slots(
-    _op: Op,
-    o: Binary,
-    row: &[Value],
-    left: u8,
-    right: u8,
-    pay: u8,
-    to: &u32,
-    pace: Pace,
-    _count: usize,
-) -> Option<Pace>
-    requires left { left < length row.now }
-    requires right { right < length row.now }
-    requires next { pace.at + 1 < _count }
-    requires jump { to.now < _count }
-    requires op { IsTestOfSlots _op o left right pay to.now }
-    ensures ok { IfSome result (λ p. OnSlots _op row.now pace row.now p) }
-    ensures place { IfSome result (λ p. p.at < _count) }
-{
-    let u = slot(row, u16::from(left));
-    let v = slot(row, u16::from(right));
-    let Some(value) = computed(o, u, v) else {
-        return None;
-    };
-    chooses(value.is_true(), pay, to, pace, _count)
-}
-
-/// A comparison of a slot with an integer.
-#[inline(always)]
-fn test_of_int(
-    _op: Op,
-    o: Binary,
-    row: &[Value],
-    left: u16,
-    right: i8,
-    pay: u8,
-    to: &u32,
-    pace: Pace,
-    _count: usize,
-) -> Option<Pace>
-    requires left { left < length row.now }
-    requires next { pace.at + 1 < _count }
-    requires jump { to.now < _count }
-    requires op { IsTestOfInt _op o left right pay to.now }
-    ensures ok { IfSome result (λ p. OnSlots _op row.now pace row.now p) }
-    ensures place { IfSome result (λ p. p.at < _count) }
-{
-    let u = slot(row, left);
-    let v = tiny(right);
-    let Some(value) = computed(o, u, v) else {
-        return None;
-    };
-    chooses(value.is_true(), pay, to, pace, _count)
-}
-
-/// The next turn of a numeric loop, or its end.
-#[inline(always)]
-fn next_turn(
-    row: &mut [Value],
-    pay: u8,
-    base: u16,
-    to: &u32,
-    pace: Pace,
-    _count: usize,
-) -> Option<Pace>
-    requires slots { base + 3 < length row.old }
-    requires next { pace.at + 1 < _count }
-    requires jump { to.now < _count }
-    ensures ok { IfSome result (λ p. OnSlots (op.ForLoop pay base to.now) row.old pace row.new p) }
-    ensures place { IfSome result (λ p. p.at < _count) }
-    ensures none { IfNone result (row.new ≡ row.old) }
-{
-    let (Value::Int(left), Value::Int(value), Value::Int(step)) = (
-        slot(row, base),
-        slot_after(row, base, 1),
-        slot_after(row, base, 2),
-    ) else {
-        return None;
-    };
-    let turns = left.cast_unsigned();
-    turn_by(row, pay, base, to, pace, _count, turns, value, step)
-}
-
-#[inline(always)]
-fn turn_by(
-    row: &mut [Value],
-    pay: u8,
-    base: u16,
-    to: &u32,
-    pace: Pace,
-    _count: usize,
-    left: u64,
-    value: i64,
-    step: i64,
-) -> Option<Pace>
-    requires slots { base + 3 < length row.old }
-    requires next { pace.at + 1 < _count }
-    requires jump { to.now < _count }
-    ensures ok { IfSome result (λ p. Turns left value step pay base to.now row.old pace row.new p) }
-    ensures place { IfSome result (λ p. p.at < _count) }
-    ensures none { IfNone result (row.new ≡ row.old) }
-{
-    if left == 0 {
-        return Some(Pace {
-            at: pace.at + 1,
-            left: pace.left,
-        });
-    }
-    let Some(paid) = pays(pay, pace) else {
-        return None;
-    };
-    let next = after(value, step);
-    let by = long(step);
-    put_turn(row, base, left - 1, next, by);
-    Some(Pace {
-        at: *to as usize,
-        left: paid.left,
-    })
-}
-
-/// A slot whose truth is asked.
-#[inline(always)]
-fn tests(_op: Op, row: &[Value], from: u16, to: &u32, pace: Pace, _count: usize) -> Option<Pace>
-    requires from { from < length row.now }
-    requires next { pace.at + 1 < _count }
-    requires jump { to.now < _count }
-    requires op { _op ≡ op.Test from to.now }
-    ensures ok { IfSome result (λ p. OnSlots _op row.now pace row.now p) }
-    ensures place { IfSome result (λ p. p.at < _count) }
-{
-    let value = slot(row, from);
-    chooses(value.is_true(), 0, to, pace, _count)
-}
-
-/// The same, for a jump where it is true.
-#[inline(always)]
-fn tests_not(_op: Op, row: &[Value], from: u16, to: &u32, pace: Pace, _count: usize) -> Pace
-    requires from { from < length row.now }
-    requires next { pace.at + 1 < _count }
-    requires jump { to.now < _count }
-    requires op { _op ≡ op.TestNot from to.now }
-    ensures ok { OnSlots _op row.now pace row.now result }
-    ensures place { result.at < _count }
-{
-    let value = slot(row, from);
-    if value.is_true() {
-        return Pace {
-            at: *to as usize,
-            left: pace.left,
-        };
-    }
-    Pace {
-        at: pace.at + 1,
-        left: pace.left,
-    }
-}
-
-/// The ticks are paid, and a jump follows.
-#[inline(always)]
-fn pays_and_jumps(_op: Op, _row: &[Value], pay: u8, to: &u32, pace: Pace) -> Option<Pace>
-    requires op { _op ≡ op.Loop pay to.now }
-    ensures ok { IfSome result (λ p. OnSlots _op _row.now pace _row.now p) }
-    ensures place { IfSome result (λ p. p.at ≡ to.now) }
-{
-    let Some(paid) = pays(pay, pace) else {
-        return None;
-    };
-    Some(Pace {
-        at: *to as usize,
-        left: paid.left,
-    })
-}
-
-/// The ticks are paid, and the next operation follows.
-#[inline(always)]
-fn pays_on(_op: Op, _row: &[Value], pay: u8, pace: Pace) -> Option<Pace>
-    requires place { pace.at < usize.MAX }
-    requires op { _op ≡ op.Tick pay }
-    ensures ok { IfSome result (λ p. OnSlots _op _row.now pace _row.now p) }
-    ensures place { IfSome result (λ p. p.at ≡ pace.at + 1) }
-{
-    let Some(paid) = pays(pay, pace) else {
-        return None;
-    };
-    Some(Pace {
-        at: paid.at + 1,
-        left: paid.left,
-    })
-}
-
-/// A slot's value goes to another.
-#[inline(always)]
-fn moves(_op: Op, row: &mut [Value], to: u16, from: u16, pace: Pace) -> Pace
-    requires to { to < length row.old }
-    requires from { from < length row.old }
-    requires place { pace.at < usize.MAX }
-    requires op { _op ≡ op.Move to from }
-    ensures ok { OnSlots _op row.old pace row.new result }
-    ensures place { result.at ≡ pace.at + 1 }
-{
-    let value = slot(row, from);
-    gives(row, to, value, pace)
-}
-
-/// An integer of the code goes to a slot.
-#[inline(always)]
-fn constant(_op: Op, row: &mut [Value], to: u16, n: i32, pace: Pace) -> Pace
-    requires to { to < length row.old }
-    requires place { pace.at < usize.MAX }
-    requires op { IsGiven _op to (value.Int n) }
-    ensures ok { OnSlots _op row.old pace row.new result }
-    ensures place { result.at ≡ pace.at + 1 }
-{
-    let value = short(n);
-    given(_op, row, to, value, pace)
-}
-
-/// The value of one of these cells goes to a slot, if there is such a cell.
-#[inline(always)]
-fn reads(row: &mut [Value], heap: &Heap, cells: &[u64], to: u16, i: u16, pace: Pace) -> Option<Pace>
-    requires slot { to < length row.old }
-    requires place { pace.at < usize.MAX }
-    ensures ok { IfSome result (λ p. Gives row.old pace to (value_at heap.now.cells (cell_of cells.now i)) row.new p) }
-    ensures place { IfSome result (λ p. p.at ≡ pace.at + 1) }
-    ensures none { IfNone result (row.new ≡ row.old) }
-{
-    let Some(cell) = cells.get(i as usize) else {
-        return None;
-    };
-    if *cell >= heap.cell_count() as u64 {
-        return None;
-    }
-    let value = heap.cell_get(*cell);
-    Some(gives(row, to, value, pace))
-}
-
-/// The value of one of the cells of a body's captured locals goes to a slot.
-#[inline(always)]
-fn reads_own(
-    row: &mut [Value],
-    heap: &Heap,
-    owner: Owner,
-    to: u16,
-    i: u16,
-    pace: Pace,
-) -> Option<Pace>
-    requires slot { to < length row.old }
-    requires place { pace.at < usize.MAX }
-    ensures ok { IfSome result (λ p. Gives row.old pace to (value_at heap.now.cells (cell_of (own_in owner.entry) i)) row.new p) }
-    ensures place { IfSome result (λ p. p.at ≡ pace.at + 1) }
-    ensures none { IfNone result (row.new ≡ row.old) }
-{
-    match owner {
-        Owner::Frame(frame) => reads(row, heap, frame.own_cells(), to, i, pace),
-        Owner::Closure(_) => None,
-    }
-}
-
-/// The value of one of the cells of a body's closure goes to a slot.
-#[inline(always)]
-fn reads_up(
-    row: &mut [Value],
-    heap: &Heap,
-    owner: Owner,
-    to: u16,
-    i: u16,
-    pace: Pace,
-) -> Option<Pace>
-    requires slot { to < length row.old }
-    requires place { pace.at < usize.MAX }
-    requires there { IsThere owner heap.now.closures }
-    ensures ok { IfSome result (λ p. Gives row.old pace to (value_at heap.now.cells (cell_of (ups_in owner.entry heap.now.closures) i)) row.new p) }
-    ensures place { IfSome result (λ p. p.at ≡ pace.at + 1) }
-    ensures none { IfNone result (row.new ≡ row.old) }
-{
-    match owner {
-        Owner::Frame(frame) => reads(row, heap, frame.up_cells(), to, i, pace),
-        Owner::Closure(closure) => reads(row, heap, cells_there(heap, closure), to, i, pace),
-    }
-}
 
 /// The pace that an operation leads to, if it comes to no stop; else it stays.
 #[inline(always)]
@@ -392,6 +39,8 @@ fn kept(next: Option<Pace>, pace: &mut Pace) -> Option<Pass>
 #[tactic(auto, using(crate::proofs::QuickLemmas::lifts, crate::proofs::QuickLemmas::lifts_kept, crate::proofs::QuickLemmas::kept_next, crate::proofs::QuickLemmas::kept_near, crate::proofs::QuickLemmas::stays_more))]
 #[inline(always)]
 fn quick<const INNER: bool>(
+    code: &[Function],
+    _function: u64,
     op: &Op,
     row: &mut [Value],
     heap: &mut Heap,
@@ -402,8 +51,9 @@ fn quick<const INNER: bool>(
     requires within { Within (length row.old) op.now }
     requires near { Near _count pace.old.at op.now }
     requires place { pace.old.at < _count }
-    requires there { IsThere owner heap.old.closures }
-    ensures ok { IfNone result (Quick op.now (own_in owner.entry) (ups_in owner.entry heap.old.closures) row.old heap.old.cells pace.old row.new heap.new.cells pace.new) }
+    requires owner { IsOwner owner heap.old.closures _function }
+    requires holds { Holds code.now _function op.now }
+    ensures ok { IfNone result (Quick code.now _function op.now (own_in owner.entry) (ups_in owner.entry heap.old.closures) row.old heap.old.cells pace.old row.new heap.new.cells pace.new) }
     ensures place { IfNone result (pace.new.at < _count) }
     ensures stays { IfSome result (λ p. (row.new ≡ row.old) × (heap.new ≡ heap.old) × (pace.new ≡ pace.old)) }
     ensures pass { IfSome result (λ p. IsPass p op.now) }
@@ -421,6 +71,10 @@ fn quick<const INNER: bool>(
         Op::Int { to, value } => {
             *pace = constant(*op, row, to, value, *pace);
             None
+        }
+        Op::Constant { to, index } => {
+            let function = function_of(heap, owner, _function);
+            kept(constant_of(code, function, row, to, index, *pace), pace)
         }
         Op::Move { to, from } => {
             *pace = moves(*op, row, to, from, *pace);
@@ -501,6 +155,7 @@ fn quick<const INNER: bool>(
             of_int(*op, o, row, u16::from(to), u16::from(left), value, *pace),
             pace,
         ),
+        Op::Unary { op: o, to, from } => kept(of_slot(*op, o, row, to, from, *pace), pace),
         Op::Tick { pay } => kept(pays_on(*op, row, pay, *pace), pace),
         Op::Jump { at } => {
             pace.at = at as usize;
@@ -735,7 +390,7 @@ pub fn block<const INNER: bool>(
     requires valid { IsValid code.now }
     requires runs { Runnable code.now _function ops.now 0 (length row.old) }
     requires place { start.at < length ops.now }
-    requires there { IsThere owner heap.old.closures }
+    requires owner { IsOwner owner heap.old.closures _function }
     ensures ran { Ran code.now _function (own_in owner.entry) (ups_in owner.entry heap.old.closures) row.old heap.old.cells start row.new heap.new.cells result.pace }
     ensures op { slice_get ops.now result.pace.at ≡ Some result.op }
     ensures pass { IsPass result.pass result.op }
@@ -746,7 +401,16 @@ pub fn block<const INNER: bool>(
     let mut pace = start;
     'quick: loop {
         let op = fetch(ops, pace.at);
-        if let Some(pass) = quick::<INNER>(op, row, heap, owner, &mut pace, ops.len()) {
+        if let Some(pass) = quick::<INNER>(
+            code,
+            _function,
+            op,
+            row,
+            heap,
+            owner,
+            &mut pace,
+            ops.len(),
+        ) {
             return Reached {
                 pace,
                 op: *op,
@@ -771,7 +435,7 @@ pub fn block_at<const INNER: bool>(
     requires valid { IsValid code.now }
     requires runs { Runnable code.now _function ops.now base (length row.old) }
     requires place { start.at < length ops.now }
-    requires there { IsThere owner heap.old.closures }
+    requires owner { IsOwner owner heap.old.closures _function }
     ensures led { Led code.now _function (own_in owner.entry) (ups_in owner.entry heap.old.closures) base row.old heap.old.cells start row.new heap.new.cells result.pace }
     ensures op { slice_get ops.now result.pace.at ≡ Some result.op }
     ensures pass { IsPass result.pass result.op }

@@ -3,13 +3,14 @@
 ghost use Rattle.std.specs.Prelude.{◌≡◌, ◌+◌, ◌<◌, [], ◌∷◌, length, IfSome, slice_set};
 ghost use Rattle.lua_value.specs.declared.value.Value.TheVariants as value;
 ghost use Rattle.lua_value.specs.Lists.{value_at};
+ghost use Rattle.lua_model.specs.declared.operator.Binary.TheVariants as binary_op;
 ghost use Rattle.lua_model.specs.Integer as lua;
 ghost use Rattle.lua_steps.specs.Moves.{written};
 ghost use Rattle.lua_steps.specs.Loops.{counted};
-ghost use Rattle.lua_machine.specs.Quick.{Computes, Gives, Chooses, Pays};
+ghost use Rattle.lua_machine.specs.Quick.{Computes, ComputesOne, Gives, Chooses, Pays};
 
 use crate::pace::Pace;
-use lua_model::Binary;
+use lua_model::{Binary, Unary};
 use lua_operators::integer;
 use lua_value::Value;
 
@@ -61,6 +62,28 @@ pub fn put_turn(row: &mut [Value], base: u16, left: u64, value: Value, step: Val
     row[first + 3] = value;
 }
 
+/// The quotient of two integers, but of one by 0.
+#[inline(always)]
+fn quotient(a: i64, b: i64) -> Option<Value>
+    ensures { IfSome result (λ w. Computes binary_op.FloorDiv (value.Int a) (value.Int b) w) }
+{
+    if b == 0 {
+        return None;
+    }
+    Some(Value::Int(integer::floor_div(a, b)))
+}
+
+/// What the quotient leaves.
+#[inline(always)]
+fn remainder(a: i64, b: i64) -> Option<Value>
+    ensures { IfSome result (λ w. Computes binary_op.Mod (value.Int a) (value.Int b) w) }
+{
+    if b == 0 {
+        return None;
+    }
+    Some(Value::Int(integer::modulo(a, b)))
+}
+
 /// What an operator answers of two integers, where it is quick.
 #[inline(always)]
 fn of_integers(op: Binary, a: i64, b: i64) -> Option<Value>
@@ -70,16 +93,20 @@ fn of_integers(op: Binary, a: i64, b: i64) -> Option<Value>
         Binary::Add => Some(Value::Int(integer::add(a, b))),
         Binary::Sub => Some(Value::Int(integer::sub(a, b))),
         Binary::Mul => Some(Value::Int(integer::mul(a, b))),
+        Binary::FloorDiv => quotient(a, b),
+        Binary::Mod => remainder(a, b),
         Binary::BitAnd => Some(Value::Int(integer::bit_and(a, b))),
         Binary::BitOr => Some(Value::Int(integer::bit_or(a, b))),
         Binary::BitXor => Some(Value::Int(integer::bit_xor(a, b))),
+        Binary::ShiftLeft => Some(Value::Int(integer::shift_left(a, b))),
+        Binary::ShiftRight => Some(Value::Int(integer::shift_right(a, b))),
         Binary::Equal => Some(Value::Bool(a == b)),
         Binary::NotEqual => Some(Value::Bool(a != b)),
         Binary::Less => Some(Value::Bool(a < b)),
         Binary::LessEqual => Some(Value::Bool(a <= b)),
         Binary::Greater => Some(Value::Bool(b < a)),
         Binary::GreaterEqual => Some(Value::Bool(b <= a)),
-        _ => None,
+        Binary::Concat => None,
     }
 }
 
@@ -89,6 +116,19 @@ pub fn computed(op: Binary, left: Value, right: Value) -> Option<Value>
 {
     match (left, right) {
         (Value::Int(a), Value::Int(b)) => of_integers(op, a, b),
+        _ => None,
+    }
+}
+
+/// What an operator answers of one operand, where it is quick.
+#[inline(always)]
+pub fn computed_of_one(op: Unary, operand: Value) -> Option<Value>
+    ensures { IfSome result (λ w. ComputesOne op operand w) }
+{
+    match (op, operand) {
+        (Unary::Minus, Value::Int(a)) => Some(Value::Int(integer::minus(a))),
+        (Unary::BitNot, Value::Int(a)) => Some(Value::Int(integer::bit_not(a))),
+        (Unary::Not, _) => Some(Value::Bool(!operand.is_true())),
         _ => None,
     }
 }

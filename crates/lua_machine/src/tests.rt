@@ -1,8 +1,8 @@
 //! With ample memory no call answers want of it. What the code gives was taken from Lua 5.4.
 
 use crate::{GoError, Machine, Stop};
-use lua_code::{Capture, Code, Function, Op, Shape, valid};
-use lua_model::Binary;
+use lua_code::{Capture, Code, Constant, Function, Op, Shape, valid};
+use lua_model::{Binary, Unary};
 use lua_value::{Value, Values};
 use sk_types::Bytes;
 use std::alloc::Global;
@@ -134,6 +134,45 @@ fn operators_are_those_of_lua(rt: HostRuntime) -> Result<(), Fail> {
         Op::Return { from: 2, count: 4 },
     ];
     assert!(rt; gives(rt.alloc(), &NOTHING, &ops, &[-4, -1, 9, 0])?);
+    Ok(())
+}
+
+#[test]
+fn operators_of_one_operand_are_those_of_lua(rt: HostRuntime) -> Result<(), Fail> {
+    let one = |op: Unary, to: u16| Op::Unary { op, to, from: 0 };
+    let ops = [
+        Op::Int { to: 0, value: 7 },
+        one(Unary::Minus, 1),
+        one(Unary::BitNot, 2),
+        Op::Return { from: 1, count: 2 },
+    ];
+    assert!(rt; gives(rt.alloc(), &NOTHING, &ops, &[-7, -8])?);
+    Ok(())
+}
+
+/// f = function() return -4294967296, 4294967296 end  return f()
+#[test]
+fn a_constant_is_that_of_its_function(rt: HostRuntime) -> Result<(), Fail> {
+    let ops = [
+        Op::Constant { to: 0, index: 1 },
+        Op::Constant { to: 1, index: 0 },
+        Op::Return { from: 0, count: 2 },
+    ];
+    let mut called = function(rt.alloc(), 0, &ops)?;
+    called.add_constant(Constant::Int(4_294_967_296))?;
+    called.add_constant(Constant::Int(-4_294_967_296))?;
+    let ops = [
+        Op::Close { to: 0, function: 1 },
+        Op::Call {
+            base: 0,
+            args: 0,
+            results: 2,
+        },
+        Op::Return { from: 0, count: 2 },
+    ];
+    let mut machine = machine(rt.alloc(), code(rt.alloc(), called, &ops)?, 100, 100)?;
+    let wanted = [-4_294_967_296, 4_294_967_296];
+    assert!(rt; integers(machine.go(Values::new(rt.alloc())), &wanted));
     Ok(())
 }
 

@@ -34,4 +34,4 @@ returns-clause-ready c =
     let begun = c.in-Some.ensures in
     let there : 0 < length c.args.calls.now = search rules in
     ready_first _ _ c.args.calls.now _ c.begin.new.self _ _ _ _ there (sym (ap (λ (x : CallInfo). x.function) is)) (sym (ap (λ (x : CallInfo). x.closure) is)) (sym (ap (λ (x : CallInfo). x.base) is)) begun.runs
-    (begins_there _ _ _ _ _ c.requires.valid begun.runs) begun.begins.there
+    (begins_there _ _ _ _ _ c.requires.valid begun.runs) begun.begins.made

@@ -17,4 +17,4 @@ returns-clause-ready c =
     let is = c.begin.ensures in
     let begun = c.in-Some.ensures in
     ready_above _ _ _ _ _ _ _ _ _ _ _ _ _ c.begin.new.self _ _ _ _ _ (omega arith) c.requires.next c.requires.ready c.wait.ensures c.requires.results
-    (sym (ap (λ (x : CallInfo). x.function) is)) (sym (ap (λ (x : CallInfo). x.closure) is)) (sym (ap (λ (x : CallInfo). x.base) is)) begun.runs (begins_there _ _ _ _ _ c.requires.valid begun.runs) begun.begins.there
+    (sym (ap (λ (x : CallInfo). x.function) is)) (sym (ap (λ (x : CallInfo). x.closure) is)) (sym (ap (λ (x : CallInfo). x.base) is)) begun.runs (begins_there _ _ _ _ _ c.requires.valid begun.runs) begun.begins.made

@@ -1,17 +1,17 @@
 use Rattle.std.proofs.Common.{Some, sym, ap, ◌∙◌, subst}
 use Rattle.lua_code.specs.declared.op.Op.{Op}
 use Rattle.lua_steps.specs.Machine.{Machine}
-use Rattle.lua_steps.specs.Moves.{next}
+use Rattle.lua_steps.specs.Moves.{jump}
 use Rattle.lua_steps.specs.Exec.{perform}
 use Rattle.lua_follow.specs.Follows.{NarrowAt}
 use Rattle.lua_machine.specs.Quick.{in_hand}
-use Rattle.lua_machine.proofs.quick.pays_on.Goals as goal
+use Rattle.lua_machine.proofs.kinds.pays_and_jumps.Goals as goal
 
 pub returns-clause-ok : goal.returns-clause-ok
 returns-clause-ok c =
     record {
       is = λ code g cells.
           ap (λ (o : Op). perform code o (in_hand g c.args._row.now cells c.args.pace)) c.requires.op
-          ∙ c.in-Some.ensures.is g c.args._row.now cells (λ (t : Machine). next t);
+          ∙ c.in-Some.ensures.is g c.args._row.now cells (λ (t : Machine). jump c.args.to.now t);
       narrow = λ m. subst (λ (o : Op). NarrowAt (Some o) m) (sym c.requires.op) tt;
     }

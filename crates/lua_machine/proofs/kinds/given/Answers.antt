@@ -1,6 +1,6 @@
 use Rattle.std.proofs.Common.{◌∙◌}
 use Rattle.lua_machine.specs.Quick.{in_hand}
-use Rattle.lua_machine.proofs.quick.given.Goals as goal
+use Rattle.lua_machine.proofs.kinds.given.Goals as goal
 
 pub returns-clause-ok : goal.returns-clause-ok
 returns-clause-ok c =

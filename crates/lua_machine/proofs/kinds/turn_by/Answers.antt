@@ -10,7 +10,7 @@ use Rattle.lua_machine.specs.declared.pace.Pace.{Pace}
 use Rattle.lua_machine.specs.Quick.{in_hand}
 use Rattle.lua_machine.proofs.LoopLemmas.{next_some}
 use Rattle.lua_machine.proofs.QuickLemmas.{written_after}
-use Rattle.lua_machine.proofs.quick.turn_by.Goals as goal
+use Rattle.lua_machine.proofs.kinds.turn_by.Goals as goal
 
 pub returns-clause-ok : goal.returns-clause-ok
 returns-clause-ok c =

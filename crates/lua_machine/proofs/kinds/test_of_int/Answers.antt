@@ -6,7 +6,7 @@ use Rattle.lua_model.specs.Operators.{binary}
 use Rattle.lua_steps.specs.Exec.{line, chosen, unless}
 use Rattle.lua_machine.specs.Quick.{in_hand}
 use Rattle.lua_machine.proofs.QuickLemmas.{value_after, some_map}
-use Rattle.lua_machine.proofs.quick.test_of_int.Goals as goal
+use Rattle.lua_machine.proofs.kinds.test_of_int.Goals as goal
 
 pub returns-clause-ok : goal.returns-clause-ok
 returns-clause-ok c =

@@ -6,7 +6,7 @@ use Rattle.lua_steps.specs.Exec.{perform}
 use Rattle.lua_follow.specs.Follows.{NarrowAt}
 use Rattle.lua_machine.specs.Quick.{in_hand}
 use Rattle.lua_machine.proofs.QuickLemmas.{value_after}
-use Rattle.lua_machine.proofs.quick.moves.Goals as goal
+use Rattle.lua_machine.proofs.kinds.moves.Goals as goal
 
 pub returns-clause-ok : goal.returns-clause-ok
 returns-clause-ok c =

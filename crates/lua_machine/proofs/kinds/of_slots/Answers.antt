@@ -5,7 +5,7 @@ use Rattle.lua_steps.specs.Moves.{answered}
 use Rattle.lua_steps.specs.Exec.{line}
 use Rattle.lua_machine.specs.Quick.{in_hand}
 use Rattle.lua_machine.proofs.QuickLemmas.{value_after}
-use Rattle.lua_machine.proofs.quick.of_slots.Goals as goal
+use Rattle.lua_machine.proofs.kinds.of_slots.Goals as goal
 
 pub returns-clause-ok : goal.returns-clause-ok
 returns-clause-ok c =

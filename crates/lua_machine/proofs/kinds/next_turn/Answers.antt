@@ -5,7 +5,7 @@ use Rattle.lua_steps.specs.Moves.{slot}
 use Rattle.lua_steps.specs.Loops.{next_turn, numeric_next}
 use Rattle.lua_machine.specs.Quick.{in_hand}
 use Rattle.lua_machine.proofs.QuickLemmas.{value_after, some_map}
-use Rattle.lua_machine.proofs.quick.next_turn.Goals as goal
+use Rattle.lua_machine.proofs.kinds.next_turn.Goals as goal
 
 pub returns-clause-ok : goal.returns-clause-ok
 returns-clause-ok c =
