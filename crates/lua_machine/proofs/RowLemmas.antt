@@ -4,6 +4,7 @@ use Rattle.std.specs.Prelude.{slice_set}
 use Rattle.lua_value.specs.declared.value.Value.{Value}
 use Rattle.lua_value.specs.Lists.{value_at, adjusted}
 use Rattle.lua_steps.specs.Moves.{written, values_from}
+use Rattle.lua_follow.proofs.Lists.{value_other}
 
 pub from_next : (row : List Value) (s n i : ℕ) → i < n → values_from row (s + i) (n - i) ≡ value_at row (s + i) ∷ values_from row (s + (i + 1)) (n - (i + 1))
 from_next row s n i lt =
@@ -31,3 +32,20 @@ pub written_next : (row all : List Value) (vs : List Value) (s n i : ℕ) → i 
 written_next row all vs s n i lt e =
     let p : s + (i + 1) ≡ s + i + 1 = omega arith in
     ap (λ (j : ℕ). written (slice_set row (s + i) (value_at vs i)) j (adjusted (n - (i + 1)) (drop (i + 1) vs))) p ∙ ap (λ (us : List Value). written row (s + i) us) (sym (adjusted_next n i vs lt)) ∙ e
+
+-- a value that is written where it stands changes nothing
+pub kept_set : (row : List Value) (i : ℕ) → slice_set row i (value_at row i) ≡ row
+kept_set [] i = refl
+kept_set (u ∷ row) zero = refl
+kept_set (u ∷ row) (suc i) = ap (λ (r : List Value). u ∷ r) (kept_set row i)
+
+-- the third of four values stands already
+pub third_stays : (row : List Value) (i : ℕ) (u v w : Value) → slice_set (slice_set (slice_set row i u) (i + 1) v) (i + 3) w ≡ written row i (u ∷ v ∷ value_at row (i + 2) ∷ w ∷ [])
+third_stays row i u v w =
+    let r = slice_set (slice_set row i u) (i + 1) v in
+    let two : i + 1 + 1 ≡ i + 2 = omega arith in
+    let three : i + 3 ≡ i + 1 + 1 + 1 = omega arith in
+    let held : value_at r (i + 1 + 1) ≡ value_at row (i + 2) =
+    value_other (slice_set row i u) (i + 1) (i + 1 + 1) v (λ e. omega (arith, e)) ∙ value_other row i (i + 1 + 1) u (λ e. omega (arith, e)) ∙ ap (λ (k : ℕ). value_at row k) two in
+    ap (λ (k : ℕ). slice_set r k w) three
+    ∙ ap (λ (q : List Value). slice_set q (i + 1 + 1 + 1) w) (sym (kept_set r (i + 1 + 1)) ∙ ap (λ (x : Value). slice_set r (i + 1 + 1) x) held)

@@ -13,12 +13,12 @@ use crate::cells::cells_there;
 use crate::pace::Pace;
 use crate::pass::function_there;
 use crate::slots::{
-    after, chooses, computed, computed_of_one, gives, long, pays, put_turn, short, slot,
-    slot_after, tiny,
+    chooses, computed, computed_of_one, gives, long, pays, put_turn, short, slot, slot_after, tiny,
 };
 use lua_code::{Constant, Function, Op};
 use lua_heap::Heap;
 use lua_model::{Binary, Unary};
+use lua_operators::integer;
 use lua_value::Value;
 
 /// A value that is known goes to a slot.
@@ -200,13 +200,14 @@ fn turn_by(
     pace: Pace,
     _count: usize,
     left: u64,
-    value: i64,
+    at: i64,
     step: i64,
 ) -> Option<Pace>
     requires slots { base + 3 < length row.old }
+    requires step { value_at row.old (base + 2) ≡ value.Int step }
     requires next { pace.at + 1 < _count }
     requires jump { to.now < _count }
-    ensures ok { IfSome result (λ p. Turns left value step pay base to.now row.old pace row.new p) }
+    ensures ok { IfSome result (λ p. Turns left at step pay base to.now row.old pace row.new p) }
     ensures place { IfSome result (λ p. p.at < _count) }
     ensures none { IfNone result (row.new ≡ row.old) }
 {
@@ -219,9 +220,7 @@ fn turn_by(
     let Some(paid) = pays(pay, pace) else {
         return None;
     };
-    let next = after(value, step);
-    let by = long(step);
-    put_turn(row, base, left - 1, next, by);
+    put_turn(row, base, left - 1, integer::add(at, step));
     Some(Pace {
         at: *to as usize,
         left: paid.left,

@@ -33,9 +33,9 @@ fn kept(next: Option<Pace>, pace: &mut Pace) -> Option<Pass>
     None
 }
 
-/// One operation. Where it is quick and comes to no stop, the pace moves on; else all stays as it was, and the call or return that it is is
-/// answered. Of the heap it touches the cells alone. There are so many operations. `INNER` tells the copy for inner calls from that for
-/// frames, so that both are put in line.
+/// One operation. Where it is quick and comes to no stop, the pace moves on; else all stays as it was, and a call or a return is answered.
+/// Of the heap it touches the cells alone. There are so many operations. `INNER` tells the copy for inner calls from that for frames, so
+/// that both are put in line.
 #[tactic(auto, using(crate::proofs::QuickLemmas::lifts, crate::proofs::QuickLemmas::lifts_kept, crate::proofs::QuickLemmas::kept_next, crate::proofs::QuickLemmas::kept_near, crate::proofs::QuickLemmas::stays_more))]
 #[inline(always)]
 fn quick<const INNER: bool>(
@@ -363,7 +363,25 @@ fn quick<const INNER: bool>(
             results,
         }),
         Op::Return { from, count } => Some(Pass::Return { from, count }),
-        _ => Some(Pass::Neither),
+        Op::NewCell { .. }
+        | Op::Close { .. }
+        | Op::CloseCell { .. }
+        | Op::ForPrep { .. }
+        | Op::ForCall { .. }
+        | Op::ForEach { .. }
+        | Op::CallAll { .. }
+        | Op::TailCall { .. }
+        | Op::Begin
+        | Op::Push { .. }
+        | Op::Append
+        | Op::Dots
+        | Op::DotsTo { .. }
+        | Op::Spread { .. }
+        | Op::Item { .. }
+        | Op::CallList { .. }
+        | Op::TailCallList { .. }
+        | Op::ReturnList
+        | Op::Start => Some(Pass::Neither),
     }
 }
 

@@ -4,7 +4,6 @@ ghost use Rattle.std.specs.Prelude.{◌≡◌, ◌+◌, ◌<◌, [], ◌∷◌, 
 ghost use Rattle.lua_value.specs.declared.value.Value.TheVariants as value;
 ghost use Rattle.lua_value.specs.Lists.{value_at};
 ghost use Rattle.lua_model.specs.declared.operator.Binary.TheVariants as binary_op;
-ghost use Rattle.lua_model.specs.Integer as lua;
 ghost use Rattle.lua_steps.specs.Moves.{written};
 ghost use Rattle.lua_steps.specs.Loops.{counted};
 ghost use Rattle.lua_machine.specs.Quick.{Computes, ComputesOne, Gives, Chooses, Pays};
@@ -49,17 +48,28 @@ pub fn put(row: &mut [Value], i: u16, value: Value)
     row[i as usize] = value;
 }
 
-/// The slots of a turn.
+/// An integer goes to a place. Where one stands there already, its kind is not written anew.
 #[inline(always)]
-pub fn put_turn(row: &mut [Value], base: u16, left: u64, value: Value, step: Value)
+fn put_int(row: &mut [Value], place: usize, n: i64)
+    requires { place < length row.old }
+    ensures { row.new ≡ slice_set row.old place (value.Int n) }
+{
+    match &mut row[place] {
+        Value::Int(held) => *held = n,
+        other => *other = Value::Int(n),
+    }
+}
+
+/// The slots of a turn. The step stays.
+#[inline(always)]
+pub fn put_turn(row: &mut [Value], base: u16, left: u64, at: i64)
     requires { base + 3 < length row.old }
-    ensures { row.new ≡ written row.old base (counted left ∷ value ∷ step ∷ value ∷ []) }
+    ensures { row.new ≡ written row.old base (counted left ∷ value.Int at ∷ value_at row.old (base + 2) ∷ value.Int at ∷ []) }
 {
     let first = base as usize;
-    row[first] = Value::Int(left.cast_signed());
-    row[first + 1] = value;
-    row[first + 2] = step;
-    row[first + 3] = value;
+    put_int(row, first, left.cast_signed());
+    put_int(row, first + 1, at);
+    row[first + 3] = Value::Int(at);
 }
 
 /// The quotient of two integers, but of one by 0.
@@ -152,14 +162,6 @@ pub fn long(n: i64) -> Value
     ensures { result ≡ value.Int n }
 {
     Value::Int(n)
-}
-
-/// The value of the next turn, which wraps round.
-#[inline(always)]
-pub fn after(at: i64, step: i64) -> Value
-    ensures { result ≡ value.Int (lua.add at step) }
-{
-    Value::Int(integer::add(at, step))
 }
 
 /// The value goes to a slot, and the next operation follows.
