@@ -8,12 +8,12 @@ use Rattle.lua_grammar.specs.declared.tree.Part.TheVariants as part
 use Rattle.lua_grammar.specs.Lexeme.{Lexemes}
 use Rattle.lua_grammar.specs.Grammar.{IsChunk, IsBlock}
 use Rattle.lua_grammar.specs.Parts.{Parts, block}
-use Rattle.lua_grammar.specs.Faults.{IsFault, at_token, at_end, Keeps, opening, is_bound}
+use Rattle.lua_grammar.specs.Faults.{IsFault, Keeps, opening}
 use Rattle.lua_grammar.specs.Reading.{reading}
-use Rattle.lua_grammar.proofs.Read.{read_ok, read_err, chunk_reading, fault_read, unexpected_law, end_law, bounds_law}
+use Rattle.lua_grammar.proofs.Read.{read_ok, read_err, chunk_reading, fault_read}
 use Rattle.lua_parser.specs.declared.error.ParseError.{ParseError}
 use Rattle.lua_parser.specs.declared.error.ParseError.TheVariants.{Memory, Fault}
-use Rattle.lua_parser.specs.Answers.{Gives, Faults, IsDeadAt, IsAliveAt}
+use Rattle.lua_parser.specs.Answers.{Gives, Faults}
 use Rattle.lua_parser.specs.Verdicts.{Reads}
 
 -- ---- a chunk is answered
@@ -53,24 +53,3 @@ err_same f g r h i = cc
 pub refused : (end : ℕ) (ts : Lexemes) (error : ParseError) → Reads (reading end opening ts) (Err error) → (f : SyntaxFault) → IsFault end ts f → Faults f (Err error)
 refused end ts Memory h f d = tt
 refused end ts (Fault g) h f d = err_same g f (reading end opening ts) h (fault_read d)
-
--- ---- where a fault stands
-
-pub dead_at : {end : ℕ} {ts : Lexemes} {f : SyntaxFault} → IsFault end ts f → f.kind ≡ bad.Unexpected → IsDeadAt end ts f.line
-dead_at (at_token {state = state} before t later d v) h = record {
-  rest = t ∷ later;
-  bad = unexpected_law before t later state d (v ∙ ap (λ kind. Some kind) h);
-  place = refl;
-}
-dead_at (at_end {state = state} {ts = ts} d g) h = record { rest = []; bad = end_law ts state d g; place = refl }
-
-pub alive_at : {end : ℕ} {ts : Lexemes} {f : SyntaxFault} → IsFault end ts f → is_bound f.kind ≡ true → IsAliveAt ts f.line
-alive_at (at_token {state = state} {kind = kind} before t later d v) h = record {
-  before = before;
-  token = t;
-  later = later;
-  split = refl;
-  place = refl;
-  alive = bounds_law before t state kind d v h;
-}
-alive_at (at_end d g) h = cc

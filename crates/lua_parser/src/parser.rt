@@ -1,11 +1,11 @@
 ghost use Rattle.std.specs.Prelude.{◌≡◌, IfOk, true};
 ghost use Rattle.sk_types.specs.declared.fault.SyntaxFault.{SyntaxFault};
 ghost use Rattle.lua_tree.specs.declared.tree.Chunk.{Chunk};
-ghost use Rattle.lua_grammar.specs.Faults.{IsTokenFault, ReadsAs, is_bound, opening};
+ghost use Rattle.lua_grammar.specs.Faults.{IsTokenFault, ReadsAs, opening};
 ghost use Rattle.lua_grammar.specs.Lexeme.{lexeme_of, lexemes_of};
 ghost use Rattle.lua_grammar.specs.Machine.{feed, finish};
 ghost use Rattle.lua_grammar.specs.Reading.{judged, reading};
-ghost use Rattle.lua_parser.specs.Answers.{Faults, Gives, IsAliveAt, IsDeadAt};
+ghost use Rattle.lua_parser.specs.Answers.{Faults, Gives};
 ghost use Rattle.lua_parser.specs.Turns.{state_of};
 ghost use Rattle.lua_parser.specs.Verdicts.{Fed, Finished, Judged, Reads};
 
@@ -88,6 +88,8 @@ fn read(alloc: Global, tokens: &[Token], end_line: u32) -> Result<Reader, ParseE
 
 /// The chunk that tokens spell within the bounds, or their first fault. A fault at the end of the text has `end_line`, from 1.
 ///
+/// Which token a fault stands at is told by the laws of the grammar, `unexpected_is_first` and `bounds_where_viable`.
+///
 /// What is open nests by no native recursion, so the depth of a text takes no stack.
 pub fn parse_tokens(alloc: Global, tokens: &[Token], end_line: u32) -> Result<Chunk, ParseError>
     // What is answered is a chunk of the tokens, and keeps the bounds.
@@ -98,10 +100,6 @@ pub fn parse_tokens(alloc: Global, tokens: &[Token], end_line: u32) -> Result<Ch
     ensures fault { (f : SyntaxFault) → result ≡ Err (ParseError.Fault f) → IsTokenFault end_line tokens.now f }
     // Where there is a fault, it is the answer.
     ensures refused { (f : SyntaxFault) → IsTokenFault end_line tokens.now f → Faults f result }
-    // An unexpected token is the first that no chunk has after those before it.
-    ensures unexpected { (f : SyntaxFault) → result ≡ Err (ParseError.Fault f) → f.kind ≡ SyntaxKind.Unexpected → IsDeadAt end_line (lexemes_of tokens.now) f.line }
-    // The fault of a bound stands at a token that some chunk has after those before it.
-    ensures bound { (f : SyntaxFault) → result ≡ Err (ParseError.Fault f) → is_bound f.kind ≡ true → IsAliveAt (lexemes_of tokens.now) f.line }
 {
     match read(alloc, tokens, end_line) {
         Ok(mut reader) => Ok(Chunk {

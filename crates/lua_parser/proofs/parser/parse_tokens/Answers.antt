@@ -3,7 +3,7 @@ use Rattle.lua_grammar.specs.Faults.{opening}
 use Rattle.lua_grammar.specs.Lexeme.{lexemes_of}
 use Rattle.lua_grammar.specs.Reading.{reading}
 use Rattle.lua_parser.specs.Verdicts.{Reads}
-use Rattle.lua_parser.proofs.Answer.{found, only, no_fault, no_chunk, fault, refused, dead_at, alive_at}
+use Rattle.lua_parser.proofs.Answer.{found, only, no_fault, no_chunk, fault, refused}
 use Rattle.lua_parser.proofs.parser.parse_tokens.Goals as goal
 
 pub returns-in-Ok-clause-found : goal.returns-in-Ok-clause-found
@@ -41,15 +41,3 @@ returns-in-Err-clause-refused c = λ f d.
     let ts = lexemes_of c.args.tokens.now in
     let h = subst (λ r. Reads (reading c.args.end_line opening ts) r) c.in-Err.is c.read.ensures in
     refused c.args.end_line ts c.in-Err.error h f d
-
-pub returns-in-Err-clause-unexpected : goal.returns-in-Err-clause-unexpected
-returns-in-Err-clause-unexpected c = λ f e k.
-    let ts = lexemes_of c.args.tokens.now in
-    let h = subst (λ r. Reads (reading c.args.end_line opening ts) r) c.in-Err.is c.read.ensures in
-    dead_at (fault c.args.end_line ts c.in-Err.error h f (let i = e in cc)) k
-
-pub returns-in-Err-clause-bound : goal.returns-in-Err-clause-bound
-returns-in-Err-clause-bound c = λ f e k.
-    let ts = lexemes_of c.args.tokens.now in
-    let h = subst (λ r. Reads (reading c.args.end_line opening ts) r) c.in-Err.is c.read.ensures in
-    alive_at (fault c.args.end_line ts c.in-Err.error h f (let i = e in cc)) k
