@@ -4,7 +4,7 @@
 FOLDER ?= examples/hello
 PROGRAM := crates/skynet_run/out/skynet_run
 TOOLS := crates/skynet_tools/out/skynet_tools
-SOURCES := $(shell find crates -path '*/out' -prune -o -type f -print) crates.txt
+SOURCES := $(shell find crates \( -path '*/out' -o -path '*/must-fail' \) -prune -o -type f ! -name README.md -print) crates.txt
 
 run: $(PROGRAM)
 	@$(PROGRAM) $(FOLDER)
@@ -12,15 +12,8 @@ run: $(PROGRAM)
 check: $(TOOLS)
 	@$(TOOLS) check $(FOLDER)
 
-$(TOOLS): $(SOURCES)
-	@cd crates/skynet_tools && rt run -- check data/hello >/dev/null 2>out.log; \
-	  if [ ! -x out/skynet_tools ]; then cat out.log; fi; rm -f out.log; test -x out/skynet_tools
-	@touch $@
-
-$(PROGRAM): $(SOURCES)
-	@cd crates/skynet_run && rt run >/dev/null 2>out.log; status=$$?; \
-	  if [ ! -x out/skynet_run ] || [ $$status -eq 1 ]; then cat out.log; fi; rm -f out.log; test -x out/skynet_run
-	@touch $@
+$(PROGRAM) $(TOOLS): $(SOURCES)
+	@scripts/build $(notdir $@)
 
 test:
 	@rt ci
