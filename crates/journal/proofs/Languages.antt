@@ -1,5 +1,5 @@
 -- The first fault of a text by any language.
-use Rattle.std.proofs.Common.{◌≡◌, ◌∙◌, ◌+◌, ◌-◌, ◌≤◌, ◌<◌, ℕ, suc, zero, List, [], ◌∷◌, ◌++◌, ap, sym, refl, arith, length, take, drop}
+use Rattle.std.proofs.Common.{◌≡◌, ◌∙◌, ◌+◌, ◌-◌, ◌≤◌, ◌<◌, ℕ, suc, zero, List, [], ◌∷◌, ◌++◌, ap, sym, arith, length, take, drop}
 use Rattle.std.proofs.Math.Path.{subst}
 use Rattle.std.proofs.Math.Seq.{take-append-add}
 use Rattle.std.proofs.lemmas.List.{append_assoc, length-append, take-append-drop, length-take-le}
@@ -11,10 +11,10 @@ joined before rest text n = ap (λ (t : List ℕ). t ++ text) (take-append-add b
 
 fault_after : (L : List ℕ → Type 0) (before rest : List ℕ) (k : ℕ) → IsFirstFault (λ r. L (before ++ r)) rest k → IsFirstFault L (before ++ rest) (length before + k)
 fault_after L before rest k f = record {
-    within = omega (arith, length-append before rest, f.within);
-    begins = record { rest = f.begins.rest; goes_on = subst L (sym (joined before rest f.begins.rest k)) f.begins.goes_on };
-    longest = λ n more small b. longer n (n - length before) (omega (arith)) more small b;
-    none = f.none;
+  within = omega (arith, length-append before rest, f.within);
+  begins = record { rest = f.begins.rest; goes_on = subst L (sym (joined before rest f.begins.rest k)) f.begins.goes_on };
+  longest = λ n more small b. longer n (n - length before) (omega (arith)) more small b;
+  none = f.none;
 }
   where
     longer : (n m : ℕ) → n ≡ length before + m → length before + k < n → n ≤ length (before ++ rest) → Begins L (take n (before ++ rest)) → ⊥
@@ -33,19 +33,19 @@ fault_from L text at k small f =
 -- two languages of the same texts
 pub same_fault : (L M : List ℕ → Type 0) (text : List ℕ) (k : ℕ) → ((r : List ℕ) → L r → M r) → ((r : List ℕ) → M r → L r) → IsFirstFault L text k → IsFirstFault M text k
 same_fault L M text k to from f = record {
-    within = f.within;
-    begins = record { rest = f.begins.rest; goes_on = to (take k text ++ f.begins.rest) f.begins.goes_on };
-    longest = λ n more small b. f.longest n more small (record { rest = b.rest; goes_on = from (take n text ++ b.rest) b.goes_on });
-    none = λ l. f.none (from text l);
+  within = f.within;
+  begins = record { rest = f.begins.rest; goes_on = to (take k text ++ f.begins.rest) f.begins.goes_on };
+  longest = λ n more small b. f.longest n more small (record { rest = b.rest; goes_on = from (take n text ++ b.rest) b.goes_on });
+  none = λ l. f.none (from text l);
 }
 
 -- no text of the language has the first byte
 pub fault_at_byte : (L : List ℕ → Type 0) (byte : ℕ) (text : List ℕ) → Begins L [] → ((r : List ℕ) → L (byte ∷ r) → ⊥) → IsFirstFault L (byte ∷ text) 0
 fault_at_byte L byte text begins none = record {
-    within = omega arith;
-    begins = begins;
-    longest = longer;
-    none = none text;
+  within = omega arith;
+  begins = begins;
+  longest = longer;
+  none = none text;
 }
   where
     longer : (n : ℕ) → 0 < n → n ≤ length (byte ∷ text) → Begins L (take n (byte ∷ text)) → ⊥
@@ -55,8 +55,8 @@ fault_at_byte L byte text begins none = record {
 -- the text ends too early
 pub fault_at_end : (L : List ℕ → Type 0) → Begins L [] → (L [] → ⊥) → IsFirstFault L [] 0
 fault_at_end L begins none = record {
-    within = omega arith;
-    begins = begins;
-    longest = λ n more small b. omega arith;
-    none = none;
+  within = omega arith;
+  begins = begins;
+  longest = λ n more small b. omega arith;
+  none = none;
 }

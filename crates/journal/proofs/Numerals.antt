@@ -1,5 +1,5 @@
 -- A number in decimal: its first digit, and digits that go on from there.
-use Rattle.std.proofs.Common.{◌≡◌, ◌∙◌, ◌+◌, ◌-◌, ◌*◌, ◌/◌, ◌%◌, ◌^◌, ◌≤◌, ◌<◌, ℕ, List, [], ◌∷◌, ◌++◌, ap, sym, refl, arith, decimal, add-one}
+use Rattle.std.proofs.Common.{◌≡◌, ◌∙◌, ◌+◌, ◌-◌, ◌*◌, ◌/◌, ◌%◌, ◌^◌, ◌≤◌, ◌<◌, ℕ, List, [], ◌∷◌, ◌++◌, ap, refl, arith, decimal}
 use Rattle.std.proofs.lemmas.Fmt.{decimal_by_steps}
 use Rattle.journal.specs.Tails.{GoesOn, value}
 
@@ -31,13 +31,13 @@ one n small = record { first = 48 + n; digits = []; is = refl; low = omega arith
 
 one_more : (n : ℕ) (text : List ℕ) → 10 ≤ n → Starts (n / 10) text → Starts n (text ++ ((48 + n % 10) ∷ []))
 one_more n text large s = record {
-    first = s.first;
-    digits = s.digits ++ (48 + n % 10) ∷ [];
-    is = ap (λ (t : List ℕ). t ++ (48 + n % 10) ∷ []) s.is;
-    low = s.low;
-    high = s.high;
-    goes_on = goes_on-append (s.first - 48) s.digits (48 + n % 10) s.goes_on (omega (arith, s.worth)) (omega arith) (omega arith);
-    worth = value-append (s.first - 48) s.digits (48 + n % 10) ∙ omega (arith, s.worth);
+  first = s.first;
+  digits = s.digits ++ (48 + n % 10) ∷ [];
+  is = ap (λ (t : List ℕ). t ++ (48 + n % 10) ∷ []) s.is;
+  low = s.low;
+  high = s.high;
+  goes_on = goes_on-append (s.first - 48) s.digits (48 + n % 10) s.goes_on (omega (arith, s.worth)) (omega arith) (omega arith);
+  worth = value-append (s.first - 48) s.digits (48 + n % 10) ∙ omega (arith, s.worth);
 }
 
 pub decimal_starts : (n : ℕ) → n < 2 ^ 64 → Starts n (decimal n)

@@ -1,7 +1,6 @@
 -- How far two texts are the same.
-use Rattle.std.proofs.Common.{◌≡◌, ◌≢◌, ◌∙◌, ◌+◌, ◌-◌, ◌≤◌, ◌<◌, ◌==◌, Bool, true, false, ℕ, suc, zero, List, [], ◌∷◌, ◌++◌, ap, ap₂, sym, refl, arith, length, min, take, drop, get_or, drop-cons, length-drop, if◌then◌else◌, eqb-true, eq-eqb}
+use Rattle.std.proofs.Common.{◌≡◌, ◌≢◌, ◌∙◌, ◌+◌, ◌≤◌, ◌<◌, ◌==◌, Bool, true, false, ℕ, suc, zero, List, [], ◌∷◌, ◌++◌, ap, ap₂, refl, arith, length, min, take, drop, get_or, drop-cons, length-drop, if◌then◌else◌, eqb-true, eq-eqb}
 use Rattle.std.proofs.lemmas.Bool.{ne_eqb}
-use Rattle.std.proofs.lemmas.List.{append-nil, take_all}
 use Rattle.journal.specs.Common.{common}
 
 abbrev one_on : Bool → ℕ → ℕ
@@ -37,14 +36,14 @@ pub common_more : (a b : List ℕ) (n : ℕ) → n < length a → n < length b �
     → common a b ≡ (n + 1) + common (drop (n + 1) a) (drop (n + 1) b)
 common_more a b n h k same e =
     let step : common (drop n a) (drop n b) ≡ suc (common (drop (suc n) a) (drop (suc n) b)) =
-        common_at a b n h k ∙ ap (λ (t : Bool). one_on t (common (drop (suc n) a) (drop (suc n) b))) (eq-eqb _ _ same) in
+    common_at a b n h k ∙ ap (λ (t : Bool). one_on t (common (drop (suc n) a) (drop (suc n) b))) (eq-eqb _ _ same) in
     let next : common (drop (suc n) a) (drop (suc n) b) ≡ common (drop (n + 1) a) (drop (n + 1) b) = ap (λ (j : ℕ). common (drop j a) (drop j b)) {x = suc n} {y = n + 1} (omega arith) in
     omega (arith, e, step, next)
 
 pub common_stops : (a b : List ℕ) (n : ℕ) → n < length a → n < length b → get_or a n 0 ≢ get_or b n 0 → common a b ≡ n + common (drop n a) (drop n b) → common a b ≡ n
 common_stops a b n h k other e =
     let step : common (drop n a) (drop n b) ≡ 0 =
-        common_at a b n h k ∙ ap (λ (t : Bool). one_on t (common (drop (suc n) a) (drop (suc n) b))) (ne_eqb _ _ other) in
+    common_at a b n h k ∙ ap (λ (t : Bool). one_on t (common (drop (suc n) a) (drop (suc n) b))) (ne_eqb _ _ other) in
     omega (arith, e, step)
 
 pub common_ends : (a b : List ℕ) (m n : ℕ) → m ≡ min (length a) (length b) → m ≤ n → n ≤ m → common a b ≡ n + common (drop n a) (drop n b) → m ≡ common a b
@@ -68,12 +67,3 @@ common-append [] [] = refl
 common-append [] (y ∷ z) = refl
 common-append (x ∷ b) z =
     ap (λ (same : Bool). if same then suc (common (b ++ z) b) else 0) (eq-eqb x x refl) ∙ ap suc (common-append b z)
-
--- both are the same where all of both is
-pub common_all : (a b : List ℕ) → length a ≤ common a b → length b ≤ common a b → a ≡ b
-common_all a b all also = sym (take_all (common a b) a all) ∙ take_common a b ∙ take_all (common a b) b also
-
-pub common_none : (a b : List ℕ) → a ≡ b → (length a ≤ common a b) × (length b ≤ common a b)
-common_none a b e =
-    let is : common a b ≡ length b = ap (λ (t : List ℕ). common t b) (e ∙ sym (append-nil b)) ∙ common-append b [] in
-    (omega (arith, is, ap (λ (t : List ℕ). length t) e), omega (arith, is))

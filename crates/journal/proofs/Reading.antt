@@ -1,27 +1,27 @@
 -- A reader of a journal's lines, one byte after another.
-use Rattle.std.proofs.Common.{◌≡◌, ◌≢◌, ◌∙◌, ◌⊎◌, inl, inr, ◌+◌, ◌-◌, ◌*◌, ◌≤◌, ◌<◌, ℕ, suc, List, [], ◌∷◌, ◌++◌, ap, sym, refl, arith, decimal, length, append_assoc, append-nil, take, drop, get_or, drop-cons}
+use Rattle.std.proofs.Common.{◌≡◌, ◌∙◌, ◌⊎◌, inl, inr, ◌+◌, ◌-◌, ◌*◌, ◌≤◌, ◌<◌, ℕ, suc, List, [], ◌∷◌, ◌++◌, ap, sym, refl, arith, decimal, length, append_assoc, append-nil, take, drop, get_or, drop-cons}
 use Rattle.std.proofs.Math.Seq.{take-suc}
 use Rattle.std.proofs.Math.Path.{subst}
 use Rattle.std.proofs.lemmas.List.{length-append, drop_all}
 use Rattle.sk_types.specs.declared.number.Handle.{Handle}
 use Rattle.journal.specs.Faults.{Begins, IsBody, IsFirstFault}
-use Rattle.journal.specs.Format.{AreKnown, IsJournal, last_line, lines}
-use Rattle.journal.specs.Tails.{GoesOn, IsPlace, IsReached, LineTail, NumberTail, Tail, Takes, begun}
+use Rattle.journal.specs.Format.{AreKnown, last_line, lines}
+use Rattle.journal.specs.Tails.{IsReached, LineTail, NumberTail, Tail, Takes, begun}
 use Rattle.journal.specs.declared.lines.Spot.{Spot}
 use Rattle.journal.specs.declared.lines.Spot.TheVariants as spot
 use Rattle.journal.specs.declared.lines.Step.{Step}
 use Rattle.journal.specs.declared.lines.Step.TheVariants as step
 use Rattle.journal.proofs.Languages.{fault_at_byte, fault_at_end, fault_from}
-use Rattle.journal.proofs.Numerals.{Starts, decimal_starts}
+use Rattle.journal.proofs.Numerals.{decimal_starts}
 use Rattle.journal.proofs.Spellings.{appended, begun_goes_on, lines-append}
 use Rattle.journal.proofs.Steps.{number_inv}
 
 pub reached_first : (body : List ℕ) → IsReached body 0 [] spot.Line
 reached_first body = record {
-    journal = record { few = omega arith; known = tt };
-    is_place = tt;
-    is = refl;
-    only = λ text b. record { agents = b.agents; few = omega (arith, b.spells.journal.few); known = b.spells.journal.known; is = b.spells.is ∙ ap (λ (n : ℕ). lines b.agents ++ last_line n) (omega arith) };
+  journal = record { few = omega arith; known = tt };
+  is_place = tt;
+  is = refl;
+  only = λ text b. record { agents = b.agents; few = omega (arith, b.spells.journal.few); known = b.spells.journal.known; is = b.spells.is ∙ ap (λ (n : ℕ). lines b.agents ++ last_line n) (omega arith) };
 }
 
 -- the bytes up to the next one
@@ -43,21 +43,21 @@ body_on body at byte text next b = subst IsBody (ap (λ (t : List ℕ). t ++ tex
 pub reached_digit : (body : List ℕ) (at byte : ℕ) (agents : List Handle) (place : Spot) (n : ℕ) → Next body at byte → IsReached body at agents place
     → Takes place byte (length agents) (step.Digit n) → IsReached body (at + 1) agents (spot.Number n)
 reached_digit body at byte agents place n next r t = record {
-    journal = r.journal;
-    is_place = t.1;
-    is = next ∙ ap (λ (x : List ℕ). x ++ byte ∷ []) r.is ∙ append_assoc (lines agents) (begun place) (byte ∷ []) ∙ ap (λ (x : List ℕ). lines agents ++ x) t.0;
-    only = λ text b. t.2 text (r.only (byte ∷ text) (body_on body at byte text next b));
+  journal = r.journal;
+  is_place = t.1;
+  is = next ∙ ap (λ (x : List ℕ). x ++ byte ∷ []) r.is ∙ append_assoc (lines agents) (begun place) (byte ∷ []) ∙ ap (λ (x : List ℕ). lines agents ++ x) t.0;
+  only = λ text b. t.2 text (r.only (byte ∷ text) (body_on body at byte text next b));
 }
 
 ended : (body : List ℕ) (at : ℕ) (agents : List Handle) (n : ℕ) (h : Handle) → h.0 ≡ n → Next body at 10 → IsReached body at agents (spot.Number n)
     → IsReached body (at + 1) (agents ++ h ∷ []) spot.Line
 ended body at agents n h is next r = record {
-    journal = appended agents h r.journal r.is_place.0 (omega (arith, is, r.is_place.1));
-    is_place = tt;
-    is = next ∙ ap (λ (x : List ℕ). x ++ 10 ∷ []) r.is ∙ append_assoc (lines agents) (decimal n) (10 ∷ [])
-        ∙ ap (λ (k : ℕ). lines agents ++ (decimal k ++ 10 ∷ [])) (sym is) ∙ sym (lines-append agents (h ∷ []))
-        ∙ sym (append-nil (lines (agents ++ h ∷ [])));
-    only = λ text b. go text (number_inv (length agents) n 10 text (r.only (10 ∷ text) (body_on body at 10 text next b)));
+  journal = appended agents h r.journal r.is_place.0 (omega (arith, is, r.is_place.1));
+  is_place = tt;
+  is = next ∙ ap (λ (x : List ℕ). x ++ 10 ∷ []) r.is ∙ append_assoc (lines agents) (decimal n) (10 ∷ [])
+      ∙ ap (λ (k : ℕ). lines agents ++ (decimal k ++ 10 ∷ [])) (sym is) ∙ sym (lines-append agents (h ∷ []))
+      ∙ sym (append-nil (lines (agents ++ h ∷ [])));
+  only = λ text b. go text (number_inv (length agents) n 10 text (r.only (10 ∷ text) (body_on body at 10 text next b)));
 }
   where
     go : (text : List ℕ) → (◌≡◌ {A = ℕ} 10 10 × LineTail (length agents + 1) text)
@@ -82,7 +82,7 @@ pub fault_here : (body : List ℕ) (at byte : ℕ) (agents : List Handle) (place
     → IsReached body at agents place → Takes place byte (length agents) step.Fault → IsFirstFault IsBody body at
 fault_here body at byte agents place small is r t =
     let here = fault_at_byte (λ x. IsBody (take at body ++ x)) byte (drop (at + 1) body) (goes_on body at agents place r)
-        (λ x b. t x (r.only (byte ∷ x) b)) in
+    (λ x b. t x (r.only (byte ∷ x) b)) in
     let there = subst (λ (x : List ℕ). IsFirstFault (λ x. IsBody (take at body ++ x)) x 0) (sym is) here in
     subst (IsFirstFault IsBody body) {x = at + 0} {y = at} (omega arith) (fault_from IsBody body at 0 (omega arith) there)
 
@@ -94,7 +94,7 @@ no_line entries t = go t.agents t.known t.is
     go (h ∷ agents) k e =
         let s = decimal_starts h.0 (omega (arith, k.0)) in
         let spelled : [] ≡ s.first ∷ (s.digits ++ (10 ∷ (lines agents ++ last_line (entries + suc (length agents))))) =
-            e ∙ append_assoc (decimal h.0) (10 ∷ lines agents) _ ∙ ap (λ (t : List ℕ). t ++ (10 ∷ (lines agents ++ last_line (entries + suc (length agents))))) s.is in
+        e ∙ append_assoc (decimal h.0) (10 ∷ lines agents) _ ∙ ap (λ (t : List ℕ). t ++ (10 ∷ (lines agents ++ last_line (entries + suc (length agents))))) s.is in
         absurd (cc)
 
 no_tail : (entries : ℕ) (place : Spot) → Tail place entries [] → ⊥

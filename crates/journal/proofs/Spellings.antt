@@ -1,5 +1,5 @@
 -- Lines of entries, one after another, and that they tell their entries.
-use Rattle.std.proofs.Common.{◌≡◌, ◌≢◌, ◌∙◌, ◌+◌, ◌-◌, ◌*◌, ◌≤◌, ◌<◌, ◌^◌, ℕ, suc, List, [], ◌∷◌, ◌++◌, ap, sym, refl, arith, decimal, length, append_assoc, take, get_or}
+use Rattle.std.proofs.Common.{◌≡◌, ◌∙◌, ◌+◌, ◌-◌, ◌*◌, ◌≤◌, ◌<◌, ◌^◌, ℕ, suc, List, [], ◌∷◌, ◌++◌, ap, sym, refl, arith, decimal, length, append_assoc, take, get_or}
 use Rattle.std.proofs.Math.Seq.{take-suc}
 use Rattle.std.proofs.lemmas.List.{length-append, append_cancel_left}
 use Rattle.std.proofs.lemmas.Fmt.{decimal_is_IsNumeral}
@@ -10,7 +10,7 @@ use Rattle.journal.specs.Format.{AreKnown, IsJournal, header, last_line, lines, 
 use Rattle.journal.specs.Tails.{GoesOn, IsPlace, begun}
 use Rattle.journal.specs.declared.lines.Spot.{Spot}
 use Rattle.journal.specs.declared.lines.Spot.TheVariants as spot
-use Rattle.journal.proofs.Numerals.{Starts, decimal_starts}
+use Rattle.journal.proofs.Numerals.{decimal_starts}
 
 pub lines-append : (a b : List Handle) → lines (a ++ b) ≡ lines a ++ lines b
 lines-append [] b = refl
@@ -39,17 +39,17 @@ after_number agents n h text is =
 -- some journal goes on from each place
 pub begun_goes_on : (agents : List Handle) (place : Spot) → IsJournal agents → IsPlace place (length agents) → Begins IsBody (lines agents ++ begun place)
 begun_goes_on agents spot.Line j p = record {
-    rest = last_line (length agents);
-    goes_on = record { agents = agents; spells = record { journal = j; is = after_lines agents (last_line (length agents)) } };
+  rest = last_line (length agents);
+  goes_on = record { agents = agents; spells = record { journal = j; is = after_lines agents (last_line (length agents)) } };
 }
 begun_goes_on agents (spot.Number n) j p =
     let h : Handle = record { 0 = n } in
     record {
-        rest = 10 ∷ last_line (length (agents ++ h ∷ []));
-        goes_on = record {
-            agents = agents ++ h ∷ [];
-            spells = record { journal = appended agents h j p.0 p.1; is = after_number agents n h (last_line (length (agents ++ h ∷ []))) refl };
-        };
+      rest = 10 ∷ last_line (length (agents ++ h ∷ []));
+      goes_on = record {
+        agents = agents ++ h ∷ [];
+        spells = record { journal = appended agents h j p.0 p.1; is = after_number agents n h (last_line (length (agents ++ h ∷ []))) refl };
+      };
     }
 
 -- ---- one text has one journal
@@ -76,7 +76,7 @@ line_parted g h x y small also e =
     let s = decimal_starts g.0 (omega arith) in
     let t = decimal_starts h.0 (omega arith) in
     let both : s.first ∷ (s.digits ++ (10 ∷ x)) ≡ t.first ∷ (t.digits ++ (10 ∷ y)) =
-        ap (λ (r : List ℕ). r ++ (10 ∷ x)) (sym s.is) ∙ e ∙ ap (λ (r : List ℕ). r ++ (10 ∷ y)) t.is in
+    ap (λ (r : List ℕ). r ++ (10 ∷ x)) (sym s.is) ∙ e ∙ ap (λ (r : List ℕ). r ++ (10 ∷ y)) t.is in
     let head : s.first ≡ t.first = cc in
     let tail = parted (s.first - 48) (t.first - 48) s.digits t.digits x y s.goes_on t.goes_on (cc) in
     let number : decimal g.0 ≡ decimal h.0 = s.is ∙ (rw (head, tail.0) refl) ∙ sym t.is in
@@ -95,7 +95,7 @@ one_body [] (h ∷ b) m n k l e = absurd (not_last h _ _ l.0 (e ∙ append_assoc
 one_body (g ∷ a) [] m n k l e = absurd (not_last g _ _ k.0 (sym e ∙ append_assoc (decimal g.0) (10 ∷ lines a) (last_line m)))
 one_body (g ∷ a) (h ∷ b) m n k l e =
     let p = line_parted g h (lines a ++ last_line m) (lines b ++ last_line n) k.0 l.0
-        (sym (append_assoc (decimal g.0) (10 ∷ lines a) (last_line m)) ∙ e ∙ append_assoc (decimal h.0) (10 ∷ lines b) (last_line n)) in
+    (sym (append_assoc (decimal g.0) (10 ∷ lines a) (last_line m)) ∙ e ∙ append_assoc (decimal h.0) (10 ∷ lines b) (last_line n)) in
     let rest = one_body a b m n k.1 l.1 p.1 in
     rw (p.0, rest)
 
@@ -111,8 +111,8 @@ pub line_added : (agents items : List Handle) (i : ℕ) (d : Handle) (text new :
 line_added agents items i d text new same small so_far is =
     let before : take i items ≡ take i agents = ap (λ (a : List Handle). take i a) same in
     let next : take (i + 1) agents ≡ take i agents ++ get_or items i d ∷ [] =
-        ap (λ (a : List Handle). take (i + 1) a) (sym same) ∙ ap (λ (j : ℕ). take j items) {x = i + 1} {y = suc i} (omega arith)
-        ∙ take-suc items i d small ∙ ap (λ (a : List Handle). a ++ get_or items i d ∷ []) before in
+    ap (λ (a : List Handle). take (i + 1) a) (sym same) ∙ ap (λ (j : ℕ). take j items) {x = i + 1} {y = suc i} (omega arith)
+    ∙ take-suc items i d small ∙ ap (λ (a : List Handle). a ++ get_or items i d ∷ []) before in
     is ∙ ap (λ (t : List ℕ). t ++ (decimal (get_or items i d).0 ++ (10 ∷ []))) so_far
     ∙ append_assoc header (lines (take i agents)) (decimal (get_or items i d).0 ++ (10 ∷ []))
     ∙ ap (λ (t : List ℕ). header ++ t) (sym (lines-append (take i agents) (get_or items i d ∷ [])))

@@ -1,5 +1,5 @@
 -- What a byte does in a journal's lines.
-use Rattle.std.proofs.Common.{◌≡◌, ◌≢◌, ◌∙◌, ◌⊎◌, inl, inr, ◌+◌, ◌-◌, ◌*◌, ◌/◌, ◌%◌, ◌^◌, ◌≤◌, ◌<◌, ℕ, suc, List, [], ◌∷◌, ◌++◌, All, ap, sym, refl, arith, rules, decimal, length, append_assoc, codes}
+use Rattle.std.proofs.Common.{◌≡◌, ◌≢◌, ◌∙◌, ◌⊎◌, inl, inr, ◌+◌, ◌-◌, ◌*◌, ◌/◌, ◌%◌, ◌≤◌, ◌<◌, ℕ, suc, List, [], ◌∷◌, ◌++◌, ap, sym, arith, decimal, length, append_assoc}
 use Rattle.sk_types.specs.declared.number.Handle.{Handle}
 use Rattle.std.proofs.lemmas.Fmt.{decimal_digit, decimal_step}
 use Rattle.journal.specs.Format.{AreKnown, last_line, lines}
@@ -20,17 +20,17 @@ began : (entries byte : ℕ) (text : List ℕ) (agent : Handle) (agents : List H
     → byte ≡ s.first → text ≡ s.digits ++ (10 ∷ (lines agents ++ last_line (entries + suc (length agents))))
     → Began entries byte text
 began entries byte text agent agents s small known few head tail = record {
-    low = omega (arith, s.low, head);
-    high = omega (arith, s.high, head);
-    room = omega arith;
-    tail = record {
-        digits = s.digits;
-        goes_on = rw (head) s.goes_on;
-        small = rw (head, s.worth) small;
-        after = lines agents ++ last_line (entries + suc (length agents));
-        lines_after = record { agents = agents; few = omega arith; known = known; is = ap (λ (n : ℕ). lines agents ++ last_line n) (omega arith) };
-        is = tail;
-    };
+  low = omega (arith, s.low, head);
+  high = omega (arith, s.high, head);
+  room = omega arith;
+  tail = record {
+    digits = s.digits;
+    goes_on = rw (head) s.goes_on;
+    small = rw (head, s.worth) small;
+    after = lines agents ++ last_line (entries + suc (length agents));
+    lines_after = record { agents = agents; few = omega arith; known = known; is = ap (λ (n : ℕ). lines agents ++ last_line n) (omega arith) };
+    is = tail;
+  };
 }
 
 pub line_inv : (entries byte : ℕ) (text : List ℕ) → byte ≢ 101 → LineTail entries (byte ∷ text) → Began entries byte text
@@ -41,7 +41,7 @@ line_inv entries byte text other t = go t.agents t.few t.known t.is
     go (agent ∷ agents) few known e =
         let s = decimal_starts agent.0 (omega (arith, known.0)) in
         let spelled : byte ∷ text ≡ s.first ∷ (s.digits ++ (10 ∷ (lines agents ++ last_line (entries + suc (length agents))))) =
-            e ∙ append_assoc (decimal agent.0) (10 ∷ lines agents) _ ∙ ap (λ (t : List ℕ). t ++ (10 ∷ (lines agents ++ last_line (entries + suc (length agents))))) s.is in
+        e ∙ append_assoc (decimal agent.0) (10 ∷ lines agents) _ ∙ ap (λ (t : List ℕ). t ++ (10 ∷ (lines agents ++ last_line (entries + suc (length agents))))) s.is in
         began entries byte text agent agents s known.0 known.1 few (cc) (cc)
 
 -- what a byte says after digits
@@ -59,8 +59,13 @@ number_inv entries number byte text t = go t.digits t.goes_on t.small t.is
     go (digit ∷ digits) g small e =
         let head : byte ≡ digit = cc in
         let rest : text ≡ digits ++ 10 ∷ t.after = cc in
-        inr (g.0, rw head g.1, rw head g.2, rw head (omega (arith, grows (number * 10 + (digit - 48)) digits, small)),
-            record { digits = digits; goes_on = rw head g.3; small = rw head small; after = t.after; lines_after = t.lines_after; is = rest })
+        inr (
+          g.0,
+          rw head g.1,
+          rw head g.2,
+          rw head (omega (arith, grows (number * 10 + (digit - 48)) digits, small)),
+          record { digits = digits; goes_on = rw head g.3; small = rw head small; after = t.after; lines_after = t.lines_after; is = rest },
+        )
 
 -- ---- what each step takes
 
@@ -70,9 +75,9 @@ line_fault byte entries other outside text t =
 
 pub line_digit : (byte entries : ℕ) → 48 ≤ byte → byte ≤ 57 → entries < 4000000 → Takes spot.Line byte entries (step.Digit (byte - 48))
 line_digit byte entries low high room = (
-    ap (λ (b : ℕ). b ∷ []) (omega arith) ∙ sym (decimal_digit (byte - 48) (omega arith)),
-    (room, omega arith),
-    λ text t. (line_inv entries byte text (λ e. omega arith) t).tail,
+  ap (λ (b : ℕ). b ∷ []) (omega arith) ∙ sym (decimal_digit (byte - 48) (omega arith)),
+  (room, omega arith),
+  λ text t. (line_inv entries byte text (λ e. omega arith) t).tail,
 )
 
 pub number_fault : (number byte entries : ℕ) → byte ≢ 10 → ((0 < number) × (48 ≤ byte) × (byte ≤ 57) × (number * 10 + (byte - 48) ≤ 65535) → ⊥) → Takes (spot.Number number) byte entries step.Fault
@@ -86,13 +91,14 @@ number_fault number byte entries other outside text t = go (number_inv entries n
 pub number_digit : (number byte entries longer : ℕ) → longer ≡ number * 10 + (byte - 48) → 0 < number → 48 ≤ byte → byte ≤ 57 → longer ≤ 65535 → entries < 4000000
     → Takes (spot.Number number) byte entries (step.Digit longer)
 number_digit number byte entries longer is some low high small room = (
-    rw (decimal_step longer (omega arith) (omega arith)) (same (longer / 10) (longer % 10) (omega arith) (omega arith)),
-    (room, small),
-    λ text t. rw is (go text (number_inv entries number byte text t)),
+  rw (decimal_step longer (omega arith) (omega arith)) (same (longer / 10) (longer % 10) (omega arith) (omega arith)),
+  (room, small),
+  λ text t. rw is (go text (number_inv entries number byte text t)),
 )
   where
     same : (tens ones : ℕ) → tens ≡ number → 48 + ones ≡ byte → decimal number ++ byte ∷ [] ≡ decimal tens ++ (48 + ones) ∷ []
     same tens ones a b = rw (a, b)
+
     go : (text : List ℕ) → ((byte ≡ 10) × LineTail (entries + 1) text)
         ⊎ ((0 < number) × (48 ≤ byte) × (byte ≤ 57) × (number * 10 + (byte - 48) ≤ 65535) × NumberTail entries (number * 10 + (byte - 48)) text) → NumberTail entries (number * 10 + (byte - 48)) text
     go text (inl p) = absurd (omega (arith, p.0))

@@ -1,5 +1,5 @@
 -- How far two texts are the same.
-use Rattle.std.specs.Prelude.{ℕ, suc, List, [], ◌∷◌, ◌==◌, if◌then◌else◌}
+use Rattle.std.specs.Prelude.{ℕ, suc, List, ◌∷◌, ◌==◌, if◌then◌else◌}
 
 abbrev pub common : List ℕ → List ℕ → ℕ
 common (a ∷ text) (b ∷ other) = if a == b then suc (common text other) else 0

@@ -1,5 +1,5 @@
 -- Where a text stops to be one of a language's.
-use Rattle.std.specs.Prelude.{◌≡◌, ◌≤◌, ◌<◌, ℕ, List, ◌++◌, length, take}
+use Rattle.std.specs.Prelude.{◌≤◌, ◌<◌, ℕ, List, ◌++◌, length, take}
 use Rattle.sk_types.specs.declared.number.Handle.{Handle}
 use Rattle.journal.specs.Format.{Spells, SpellsBody}
 use Rattle.journal.specs.declared.fault.ReadError.{ReadError}

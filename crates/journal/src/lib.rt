@@ -19,3 +19,6 @@ pub use writer::write;
 pub fn law_one_journal()
     ensures { (a b : List Handle) → IsJournal a → IsJournal b → spelled a ≡ spelled b → a ≡ b }
 {}
+
+#[cfg(test)]
+mod tests;

@@ -6,6 +6,12 @@ use crate::fault::ReadError;
 use sk_types::{Handle, Journal};
 use std::alloc::Global;
 
+/// The most entries of a journal.
+const MOST_ENTRIES: usize = 4_000_000;
+
+/// The greatest number of an agent.
+const MOST_AGENT: u32 = 65_535;
+
 /// A place in the lines of a journal.
 #[derive(Clone, Copy)]
 pub(crate) enum Spot {
@@ -45,7 +51,7 @@ fn step_at_line(byte: u8, entries: usize) -> Step
     if byte < b'0' || byte > b'9' {
         return Step::Fault;
     }
-    if entries >= 4_000_000 {
+    if entries >= MOST_ENTRIES {
         return Step::Fault;
     }
     Step::Digit((byte - b'0') as u32)
@@ -63,7 +69,7 @@ fn step_in_number(number: u32, byte: u8, entries: usize) -> Step
         return Step::Fault;
     }
     let longer = number * 10 + (byte - b'0') as u32;
-    if number == 0 || longer > 65535 {
+    if number == 0 || longer > MOST_AGENT {
         return Step::Fault;
     }
     Step::Digit(longer)

@@ -17,13 +17,13 @@ fn read_body(alloc: Global, body: &[u8]) -> Result<Journal, ReadError>
     let entries = read_entries(alloc, body)?;
     let line = last_line(alloc, entries.journal.len())?;
     let rest = &body[entries.last..];
-    let same = common(rest, line.as_slice());
-    if same < rest.len() || same < line.len() {
-        return Err(ReadError::Form {
-            offset: (entries.last + same) as u64,
-        });
+    if rest == line.as_slice() {
+        return Ok(entries.journal);
     }
-    Ok(entries.journal)
+    let same = common(rest, line.as_slice());
+    Err(ReadError::Form {
+        offset: (entries.last + same) as u64,
+    })
 }
 
 /// The journal that a text spells, or the first fault of one that spells none.

@@ -1,10 +1,9 @@
-use Rattle.std.proofs.Common.{◌≡◌, ◌∙◌, ◌≤◌, ◌+◌, ℕ, List, length, ap, sym, refl, arith, get_or}
+use Rattle.std.proofs.Common.{◌≡◌, ◌∙◌, ◌+◌, ℕ, List, length, ap, sym, refl, arith, get_or}
 use Rattle.std.proofs.Math.Path.{subst, subst₂}
 use Rattle.sk_types.specs.Entries.{Entries}
 use Rattle.sk_types.specs.declared.number.Handle.{Handle}
-use Rattle.journal.specs.Tails.{IsReached, Takes}
+use Rattle.journal.specs.Tails.{IsReached}
 use Rattle.journal.specs.declared.lines.Spot.{Spot}
-use Rattle.journal.specs.declared.lines.Spot.TheVariants as spot
 use Rattle.journal.specs.declared.lines.Step.TheVariants as step
 use Rattle.journal.proofs.Reading.{drop_of, fault_end, fault_here, next_of, reached_digit, reached_entry, takes_at}
 use Rattle.journal.proofs.lines.read_entries.Goals.{in-Digit, in-Entry+in_ok-push-in-Entry}

@@ -1,4 +1,4 @@
-use Rattle.std.proofs.Common.{◌≡◌, sym}
+use Rattle.std.proofs.Common.{sym}
 use Rattle.std.proofs.Math.Path.{subst}
 use Rattle.journal.specs.Tails.{Takes}
 use Rattle.journal.specs.declared.lines.Spot.{Spot}

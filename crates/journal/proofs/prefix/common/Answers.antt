@@ -1,4 +1,3 @@
-use Rattle.std.proofs.Common.{◌≡◌, ◌≤◌}
 use Rattle.journal.proofs.Prefixes.{common_ends}
 use Rattle.journal.proofs.prefix.common.Goals as goal
 

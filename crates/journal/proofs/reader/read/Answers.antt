@@ -1,4 +1,4 @@
-use Rattle.std.proofs.Common.{◌≡◌, ◌∙◌, ◌≤◌, ◌<◌, ◌-◌, ℕ, take, drop, length, ap, sym, refl, arith}
+use Rattle.std.proofs.Common.{◌-◌, take, drop, length, sym, arith}
 use Rattle.std.proofs.Math.Path.{subst}
 use Rattle.journal.specs.Faults.{IsBody, IsFault, IsFirstFault, IsText}
 use Rattle.journal.proofs.Bodies.{head_fault, text_fault_by, text_read_by}
@@ -16,6 +16,6 @@ returns-in-Ok-clause-ok c =
 pub returns-in-Err-Form-clause-err : goal.returns-in-Err-Form-clause-err
 returns-in-Err-Form-clause-err c =
     let fault : IsFirstFault IsBody (take (length c.args.text.now - 17) (drop 17 c.args.text.now)) c.in-Err-Form.offset =
-        subst (IsFault IsBody (take (length c.args.text.now - 17) (drop 17 c.args.text.now))) c.in-Err-Form.field-0-is c.in-Err-Form.ensures.err in
+    subst (IsFault IsBody (take (length c.args.text.now - 17) (drop 17 c.args.text.now))) c.in-Err-Form.field-0-is c.in-Err-Form.ensures.err in
     text_fault_by c.args.text.now c.in-Err-Form.offset (omega (arith, c.if-begun.false, c.common-begun.ensures.same, c.common-begun.ensures.within))
     (omega (arith, c.if-begun.false, c.common-begun.ensures.within)) fault

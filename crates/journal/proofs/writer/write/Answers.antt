@@ -1,4 +1,3 @@
-use Rattle.std.proofs.Common.{◌≡◌}
 use Rattle.journal.proofs.Spellings.{line_added}
 use Rattle.journal.proofs.writer.write.Goals as goal
 
