@@ -1,0 +1,4 @@
+pub mod Common
+pub mod Faults
+pub mod Format
+pub mod Tails
