@@ -4,6 +4,7 @@ ghost use Rattle.lua_value.specs.Same.{is_nil};
 ghost use Rattle.lua_steps.specs.Machine as steps;
 ghost use Rattle.lua_steps.specs.Moves.{jump, paid, slot};
 ghost use Rattle.lua_steps.specs.Loops.{counted, turn, first_turn, numeric_by, numeric_from, next_turn, numeric_next, generic_next};
+ghost use Rattle.lua_value.specs.declared.value.Value.TheVariants as value;
 ghost use Rattle.lua_machine.specs.Views.{says, turns_after};
 
 use crate::state::State;
@@ -80,7 +81,7 @@ impl State {
         operands: Operands,
     ) -> Result<Went, NoMemory>
         requires { self.old.top.at < usize.MAX }
-        ensures { IfOk result (λ went. numeric_by first limit step line operands.pay operands.base operands.to self.old ≡ says went self.new) }
+        ensures { IfOk result (λ went. numeric_from (value.Int first) (value.Int limit) (value.Int step) line operands.pay operands.base operands.to self.old ≡ says went self.new) }
     {
         if step == 0 {
             return self.refuse(Some(line), Refusal::ForStep);
