@@ -1,7 +1,5 @@
 -- A machine comes to one stop alone, and so to that of the states as which it waited.
-use Rattle.std.proofs.Common.{◌≡◌, ℕ, zero, suc, ◌≤◌, ◌⊎◌, inl, inr, Bool, true, false, List, refl, sym, ap, ap₂, ◌∙◌, subst, arith}
-use Rattle.std.specs.Prelude.{ltb}
-use Rattle.std.proofs.lemmas.Bool.{ltb-false, ltb-true}
+use Rattle.std.proofs.Common.{◌≡◌, ℕ, zero, suc, ◌⊎◌, inl, inr, List, sym, ap, ap₂, ◌∙◌, subst}
 use Rattle.lua_value.specs.declared.value.Value.{Value}
 use Rattle.lua_code.specs.Valid.{IsValid}
 use Rattle.lua_meaning.specs.State as meaning
@@ -12,7 +10,7 @@ use Rattle.lua_meaning.specs.Laws.{StepIsDetermined}
 use Rattle.lua_steps.specs.Machine as steps
 use Rattle.lua_steps.specs.Machine.{Code, Machine, Went, On, Off, Paused, Stuck}
 use Rattle.lua_steps.specs.Calls.{given}
-use Rattle.lua_steps.specs.Exec.{exec, op_at}
+use Rattle.lua_steps.specs.Exec.{exec}
 use Rattle.lua_steps.specs.Run.{then_on, run}
 use Rattle.lua_follow.specs.Stands.{Waits}
 use Rattle.lua_follow.specs.Follows.{SameStop, RestsAt, Meets, CodeFollows}

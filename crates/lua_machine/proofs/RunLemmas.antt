@@ -1,11 +1,9 @@
 -- A run goes on by one operation.
-use Rattle.std.proofs.Common.{◌≡◌, ℕ, zero, suc, ◌+◌, ◌-◌, ◌<◌, ◌≤◌, ◌⊎◌, inl, inr, Bool, true, false, refl, sym, ap, ◌∙◌, subst, arith}
-use Rattle.std.specs.Prelude.{ltb}
-use Rattle.std.proofs.lemmas.Bool.{ltb-false, ltb-true}
+use Rattle.std.proofs.Common.{◌≡◌, ℕ, zero, suc, ◌+◌, ◌<◌, ◌≤◌, refl, sym, ap, ◌∙◌, subst, arith}
 use Rattle.lua_code.specs.Valid.{IsValid}
 use Rattle.lua_steps.specs.Measure.{total, rank, MeasureFalls}
 use Rattle.lua_steps.specs.Machine.{Code, Machine, Went, On, Off, Paused, Stuck}
-use Rattle.lua_steps.specs.Exec.{exec, op_at}
+use Rattle.lua_steps.specs.Exec.{exec}
 use Rattle.lua_steps.specs.Run.{then_on, run}
 use Rattle.lua_machine.specs.Runs.{Runs}
 

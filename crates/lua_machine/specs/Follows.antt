@@ -1,5 +1,5 @@
 -- How a machine that waits as a state of the source does goes on as the state does. A state is one of lua_meaning's.
-use Rattle.std.specs.Prelude.{◌≡◌, ℕ, true, List, [], ◌∷◌}
+use Rattle.std.specs.Prelude.{◌≡◌, ℕ, true, List, []}
 use Rattle.lua_tree.specs.Source.{Block}
 use Rattle.lua_value.specs.declared.value.Value.{Value}
 use Rattle.lua_meaning.specs.State as meaning

@@ -1,5 +1,5 @@
 -- Stretches of quick operations, calls and returns, which have the frames, the row and the pace in hand. They are this project's own.
-use Rattle.std.specs.Prelude.{◌≡◌, ℕ, ◌+◌, ◌<◌, Bool, true, false, List, ◌∷◌, length, Some}
+use Rattle.std.specs.Prelude.{◌≡◌, ℕ, ◌+◌, ◌<◌, Bool, true, false, List, ◌∷◌, length}
 use Rattle.lua_value.specs.declared.value.Value.{Value}
 use Rattle.lua_code.specs.declared.op.Op.{Op}
 use Rattle.lua_steps.specs.Machine.{Code, Closure, Frame, Wanted, Machine, On}

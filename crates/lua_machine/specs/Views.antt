@@ -1,5 +1,5 @@
 -- The parts of the machine, as contracts see them. They are this project's own.
-use Rattle.std.specs.Prelude.{◌≡◌, ℕ, suc, Bool, true, false, List, [], Option, Some, None, slice_get}
+use Rattle.std.specs.Prelude.{◌≡◌, ℕ, suc, Bool, true, false, List, [], Option, Some, None}
 use Rattle.lua_code.specs.Routine.{Routine}
 use Rattle.lua_steps.specs.Calls.{opened}
 use Rattle.lua_machine.specs.declared.calls.Callee.{Callee}

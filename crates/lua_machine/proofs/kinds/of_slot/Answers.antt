@@ -1,4 +1,4 @@
-use Rattle.std.proofs.Common.{Some, sym, ap, ◌∙◌, subst}
+use Rattle.std.proofs.Common.{sym, ap, ◌∙◌}
 use Rattle.lua_model.specs.Answer.{Answer}
 use Rattle.lua_model.specs.Operators.{unary}
 use Rattle.lua_code.specs.declared.op.Op.{Op}

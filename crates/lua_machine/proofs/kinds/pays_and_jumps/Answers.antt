@@ -1,4 +1,4 @@
-use Rattle.std.proofs.Common.{Some, sym, ap, ◌∙◌, subst}
+use Rattle.std.proofs.Common.{ap, ◌∙◌}
 use Rattle.lua_code.specs.declared.op.Op.{Op}
 use Rattle.lua_steps.specs.Machine.{Machine}
 use Rattle.lua_steps.specs.Moves.{jump}

@@ -1,4 +1,4 @@
-use Rattle.std.proofs.Common.{ℕ, Some, sym, ap, ap₂, ◌∙◌, subst}
+use Rattle.std.proofs.Common.{ℕ, sym, ap, ap₂, ◌∙◌}
 use Rattle.std.specs.Prelude.{slice_set, List}
 use Rattle.lua_value.specs.declared.value.Value.{Value}
 use Rattle.lua_heap.specs.Contents.{Contents}

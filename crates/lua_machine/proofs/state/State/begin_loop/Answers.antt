@@ -1,4 +1,4 @@
-use Rattle.std.proofs.Common.{ℕ, ◌+◌, ◌≡◌, ◌∙◌, ap, sym, arith}
+use Rattle.std.proofs.Common.{ℕ, ◌+◌, ◌≡◌, ◌∙◌, ap, arith}
 use Rattle.lua_steps.specs.Moves.{slot}
 use Rattle.lua_machine.proofs.LoopLemmas.{numeric_not}
 use Rattle.lua_machine.proofs.state.State.begin_loop.Goals.{in_default-via-in-Int+in-Int+in_default, in_default-via-in-Int+in_default, in_default-via-in_default}
