@@ -31,7 +31,7 @@ module _ (code : Code) (homes : Homes) (owners : Owners) (fr : View) (row line :
       (h.0, h.1, h.2, keeps_round sc.free _ h.3, keeps_round (sc.free + 1) _ h.4, keeps_round (sc.free + 2) _ h.5, h.6, kept_round ks round h.7)
   kept_round (GenericLoopS f state control xs body line rest env sc r pay s l ∷ ks) round h =
       (h.0, h.1, keeps_round sc.free f h.2, keeps_round (sc.free + 1) state h.3, keeps_round (sc.free + 2) control h.4, h.5, kept_round ks round h.6)
-  kept_round (CallS line env ∷ ks) round h = tt
+  kept_round (CallS line ∷ ks) round h = tt
   kept_round (k ∷ ks) round h = absurd round
 
 -- ---- registers

@@ -15,7 +15,6 @@ use Rattle.lua_follow.specs.Spot.{Spot, UnaryS, ChainS, OperandS, SuffixS, OneS,
 use Rattle.lua_follow.specs.Memory.{view}
 use Rattle.lua_follow.specs.Kept.{Shows}
 use Rattle.lua_follow.specs.Stands.{Stands, ahead}
-use Rattle.lua_follow.specs.Follows.{NarrowRun}
 use Rattle.lua_follow.proofs.Gives.{Steady}
 use Rattle.lua_follow.proofs.Keep.{floor_free}
 use Rattle.lua_follow.proofs.RowsOperator.{unary_gives}
@@ -70,16 +69,16 @@ module _ (code : Code) (valid : IsValid code) (m : Machine) (s : State) (v : Val
       let stands : value_at m.row (m.top.base + free ks) ≡ v = subst (λ q. Shows (view m.top) m.row q v) h.here.3 h.here.2 in
       subst (λ i. Row code (Sim code) m S i (reduce S)) (sym (h.here.5 ∙ ap ahead h.here.3)) (suffix_gives code valid m s how env sc v ss ks g stands h.here.1)
 
-  pub gives_row : (ks : List Spot) → (k ≡ 0 → NarrowRun code m) → Here-at ks → Row-at ks
-  gives_row (UnaryS op line how ∷ ks) narrow h = of_unary op line how ks h
-  gives_row (ChainS os env sc how ∷ ks) narrow h = of_chain os env sc how ks h
-  gives_row (OperandS op line u os env sc p ∷ ks) narrow h = of_operand op line u os env sc p ks h
-  gives_row (SuffixS ss how env sc ∷ ks) narrow h = of_suffix ss how env sc ks h
-  gives_row (OneS ∷ ks) narrow h = one_gives code m s ks v k h
-  gives_row (ItemS e es env us sc form ∷ ks) narrow h = item_gives code valid m s ks v e es env us sc (asks_of (view m.top) m.row ks form us h.kept.0) form k h
-  gives_row (IfS p others rest env sc ∷ ks) narrow h = if_gives code m (Given (IfS p others rest env sc ∷ ks)) ks rest env sc p others v k h
-  gives_row (WhileS e body rest env sc c ∷ ks) narrow h = while_gives code m (Given (WhileS e body rest env sc c ∷ ks)) ks e body rest env sc c v k h
-  gives_row (UntilS body e rest env sc d q j b ∷ ks) narrow h = until_gives code m (Given (UntilS body e rest env sc d q j b ∷ ks)) ks body e rest env sc d q j b v k h
-  gives_row (ForS stage x body line rest env sc ∷ ks) narrow h = for_gives code valid m (Given (ForS stage x body line rest env sc ∷ ks)) ks x body line rest env sc stage v k narrow h
-  gives_row [] narrow h = absurd h.here.1
-  gives_row (t ∷ ks) narrow h = absurd h.here.1
+  pub gives_row : (ks : List Spot) → Here-at ks → Row-at ks
+  gives_row (UnaryS op line how ∷ ks) h = of_unary op line how ks h
+  gives_row (ChainS os env sc how ∷ ks) h = of_chain os env sc how ks h
+  gives_row (OperandS op line u os env sc p ∷ ks) h = of_operand op line u os env sc p ks h
+  gives_row (SuffixS ss how env sc ∷ ks) h = of_suffix ss how env sc ks h
+  gives_row (OneS ∷ ks) h = one_gives code m s ks v k h
+  gives_row (ItemS e es env us sc form ∷ ks) h = item_gives code valid m s ks v e es env us sc (asks_of (view m.top) m.row ks form us h.kept.0) form k h
+  gives_row (IfS p others rest env sc ∷ ks) h = if_gives code m (Given (IfS p others rest env sc ∷ ks)) ks rest env sc p others v k h
+  gives_row (WhileS e body rest env sc c ∷ ks) h = while_gives code m (Given (WhileS e body rest env sc c ∷ ks)) ks e body rest env sc c v k h
+  gives_row (UntilS body e rest env sc d q j b ∷ ks) h = until_gives code m (Given (UntilS body e rest env sc d q j b ∷ ks)) ks body e rest env sc d q j b v k h
+  gives_row (ForS stage x body line rest env sc ∷ ks) h = for_gives code valid m (Given (ForS stage x body line rest env sc ∷ ks)) ks x body line rest env sc stage v k h
+  gives_row [] h = absurd h.here.1
+  gives_row (t ∷ ks) h = absurd h.here.1

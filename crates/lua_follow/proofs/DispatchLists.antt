@@ -1,5 +1,5 @@
 -- A list for the first context, whichever it is.
-use Rattle.std.proofs.Common.{ℕ, ◌⊎◌, inl, inr, List, [], ◌∷◌, refl, sym, subst}
+use Rattle.std.proofs.Common.{ℕ, ◌⊎◌, inl, inr, List, [], ◌∷◌, sym, subst}
 use Rattle.lua_value.specs.declared.value.Value.{Value}
 use Rattle.lua_code.specs.Valid.{IsValid}
 use Rattle.lua_meaning.specs.State.{Lists, State}
@@ -40,7 +40,7 @@ module _ (code : Code) (valid : IsValid code) (m : Machine) (s : State) (vs : Li
   by_spot (AssignS xs rest env sc form ∷ ks) h = assign_row code valid m s ks rest env sc vs xs form h
   by_spot (DropS rest env sc alone ∷ ks) h = drop_row code m s ks rest env sc vs alone h
   by_spot (ReturnS sc form ∷ ks) h = return_row code m s sc ks vs form h
-  by_spot (GenericS xs body line rest env sc listed ∷ ks) h = generic_lists code valid ks xs body line rest env sc m (Listed (GenericS xs body line rest env sc listed ∷ ks)) vs listed h refl
+  by_spot (GenericS xs body line rest env sc listed ∷ ks) h = generic_lists code valid ks xs body line rest env sc m (Listed (GenericS xs body line rest env sc listed ∷ ks)) vs listed h
   by_spot (TurnS f state xs body line rest env sc r pay b l ∷ ks) h = turn_lists code valid ks xs body line rest env sc m (Listed (TurnS f state xs body line rest env sc r pay b l ∷ ks)) f state vs r pay b l h
   by_spot (BeginS f ∷ ks) h = begin_row code valid m s f vs ks h
   by_spot (k ∷ ks) h = absurd (none_of h.here.1 (λ c. c.3) (λ c. c.1) (λ c. c.0))

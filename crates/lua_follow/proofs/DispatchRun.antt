@@ -1,12 +1,11 @@
 -- Expressions and blocks, whichever they are.
-use Rattle.std.proofs.Common.{◌≡◌, ℕ, refl, List, [], ◌∷◌, sym, subst}
+use Rattle.std.proofs.Common.{ℕ, List, [], ◌∷◌, sym, subst}
 use Rattle.lua_tree.specs.Source as source
 use Rattle.lua_tree.specs.Source.{Block, Plain, Returns, NoStat, MoreStats, Stat, Exp}
 use Rattle.lua_code.specs.Valid.{IsValid}
 use Rattle.lua_meaning.specs.State.{Env, Eval, Run, State}
 use Rattle.lua_meaning.specs.Statements.{stat, returns}
 use Rattle.lua_meaning.specs.Reduce.{reduce, leave, run}
-use Rattle.lua_meaning.specs.Known.{called_next}
 use Rattle.lua_steps.specs.Machine.{Code, Machine}
 use Rattle.lua_steps.specs.Scope.{Scope}
 use Rattle.lua_steps.specs.Serves.{IsExp, IsBlock, IsStat}
@@ -58,20 +57,16 @@ eval_row code valid m s k ks e env h =
 
 -- ---- blocks
 module _ (code : Code) (valid : IsValid code) (m : Machine) (s : State) (sc : Scope) (env : Env) where
-  -- what is called next, where this block runs
-  abbrev CallsAs : List Spot → Block → Type 0
-  CallsAs ks b = called_next s.focus s.ks ≡ called_next (Run b env) (contexts ks)
-
   -- a block has ended
-  leave_row : (ks : List Spot) → Scene code m s ks sc env → Ends code m.top.function ks sc m.top.at → CallsAs ks (Plain NoStat) → Row code (Sim code) m s 0 (leave (contexts ks) env s)
-  leave_row [] h c same = absurd h.round
-  leave_row (BlockS rest outside out ∷ ks) h c same = block_ends code m s ks rest outside out sc env h c
-  leave_row (WhileLoopS e body rest outside out a ∷ ks) h c same = while_ends code m s ks e body rest outside out a sc env h c
-  leave_row (RepeatLoopS body e rest outside out j b ∷ ks) h c same = repeat_ends code m s ks body e rest outside out j b sc env h c
-  leave_row (NumericLoopS n at step x body rest outside out pay p ∷ ks) h c same = numeric_ends code valid ks x body rest outside out m s n at step pay p sc env h c
-  leave_row (GenericLoopS f state control xs body line rest outside out r pay b l ∷ ks) h c same = generic_ends code valid ks xs body line rest outside out m s f state control r pay b l sc env h c same
-  leave_row (CallS line outside ∷ ks) h c same = call_leave code valid m s sc env line outside ks h c
-  leave_row (k ∷ ks) h c same = absurd h.round
+  leave_row : (ks : List Spot) → Scene code m s ks sc env → Ends code m.top.function ks sc m.top.at → Row code (Sim code) m s 0 (leave (contexts ks) env s)
+  leave_row [] h c = absurd h.round
+  leave_row (BlockS rest outside out ∷ ks) h c = block_ends code m s ks rest outside out sc env h c
+  leave_row (WhileLoopS e body rest outside out a ∷ ks) h c = while_ends code m s ks e body rest outside out a sc env h c
+  leave_row (RepeatLoopS body e rest outside out j b ∷ ks) h c = repeat_ends code m s ks body e rest outside out j b sc env h c
+  leave_row (NumericLoopS n at step x body rest outside out pay p ∷ ks) h c = numeric_ends code valid ks x body rest outside out m s n at step pay p sc env h c
+  leave_row (GenericLoopS f state control xs body line rest outside out r pay b l ∷ ks) h c = generic_ends code valid ks xs body line rest outside out m s f state control r pay b l sc env h c
+  leave_row (CallS line ∷ ks) h c = call_leave code valid m s sc env line ks h c
+  leave_row (k ∷ ks) h c = absurd h.round
 
   abbrev Code-of : List Spot → Block → Stat → ℕ → Type 0
   Code-of ks rest t k = IsStat code m.top.function sc t k m.top.at (Exits code m.top.function ks) (λ next b. IsBlock code m.top.function next rest 0 b (Exits code m.top.function ks) (Ends code m.top.function ks))
@@ -91,14 +86,14 @@ module _ (code : Code) (valid : IsValid code) (m : Machine) (s : State) (sc : Sc
   stat_row ks rest (source.LocalFunction x p) k h c = local_function_stat code valid m s ks sc env h rest x p k c
 
   block_row : (ks : List Spot) (b : Block) (k : ℕ) → Scene code m s ks sc env → IsBlock code m.top.function sc b k m.top.at (Exits code m.top.function ks) (Ends code m.top.function ks)
-      → CallsAs ks b → Row code (Sim code) m s k (run b env s (contexts ks))
-  block_row ks (Plain NoStat) k h c same = subst (λ i. Row code (Sim code) m s i (leave (contexts ks) env s)) (sym c.0) (leave_row ks h c.1 same)
-  block_row ks (Plain (MoreStats t ts)) k h c same = stat_row ks (Plain ts) t k h c
-  block_row ks (Returns NoStat es) k h c same = subst (λ i. Row code (Sim code) m s i (returns es env s (contexts ks))) (sym c.0) (return_stat code valid m s sc env ks h es c.1)
-  block_row ks (Returns (MoreStats t ts) es) k h c same = stat_row ks (Returns ts es) t k h c
+      → Row code (Sim code) m s k (run b env s (contexts ks))
+  block_row ks (Plain NoStat) k h c = subst (λ i. Row code (Sim code) m s i (leave (contexts ks) env s)) (sym c.0) (leave_row ks h c.1)
+  block_row ks (Plain (MoreStats t ts)) k h c = stat_row ks (Plain ts) t k h c
+  block_row ks (Returns NoStat es) k h c = subst (λ i. Row code (Sim code) m s i (returns es env s (contexts ks))) (sym c.0) (return_stat code valid m s sc env ks h es c.1)
+  block_row ks (Returns (MoreStats t ts) es) k h c = stat_row ks (Returns ts es) t k h c
 
 pub run_row : (code : Code) (valid : IsValid code) (m : Machine) (s : State) (k : ℕ) (ks : List Spot) (b : Block) (env : Env) → Stands code m (record s { focus = Run b env; ks = contexts ks }) ks k
     → Row code (Sim code) m (record s { focus = Run b env; ks = contexts ks }) k (reduce (record s { focus = Run b env; ks = contexts ks }))
 run_row code valid m s k ks b env h =
     block_row code valid m (record s { focus = Run b env; ks = contexts ks }) h.here.0 env ks b k
-    (record { homes = h.homes; owners = h.owners; memory = h.here.5; inner = h.here.2; round = h.here.3; kept = h.kept; below = h.below; room = h.room; lists = h.here.4; beside = h.beside }) h.here.1 refl
+    (record { homes = h.homes; owners = h.owners; memory = h.here.5; inner = h.here.2; round = h.here.3; kept = h.kept; below = h.below; room = h.room; lists = h.here.4; beside = h.beside }) h.here.1

@@ -77,8 +77,8 @@ pub below_map : (code : Code) (homes more : Homes) (owners others : Owners) (row
     → Below code homes owners row n ks frs → Below code more others line n ks frs
 below_map code homes more owners others row line n [] [] g h = tt
 below_map code homes more owners others row line n [] (fr ∷ frs) g h = absurd h
-below_map code homes more owners others row line n (CallS at env ∷ ks) [] g h = absurd h
-below_map code homes more owners others row line n (CallS at env ∷ ks) (fr ∷ frs) g h = (
+below_map code homes more owners others row line n (CallS at ∷ ks) [] g h = absurd h
+below_map code homes more owners others row line n (CallS at ∷ ks) (fr ∷ frs) g h = (
   h.0,
   parked_map code homes more owners others row line n fr ks h.0 g h.1,
   below_map code homes more owners others row line fr.base ks frs (grows_less homes more owners others row line n fr.base (omega (arith, h.0)) g) h.2,

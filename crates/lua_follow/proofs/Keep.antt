@@ -54,7 +54,7 @@ floor_free code homes owners fr row (WhileLoopS e body rest env sc c ∷ ks) h =
 floor_free code homes owners fr row (RepeatLoopS body e rest env sc m s ∷ ks) h = omega arith
 floor_free code homes owners fr row (NumericLoopS n at step x body rest env sc pay p ∷ ks) h = omega arith
 floor_free code homes owners fr row (GenericLoopS f state control xs body line rest env sc r pay s l ∷ ks) h = omega arith
-floor_free code homes owners fr row (CallS line env ∷ ks) h = omega arith
+floor_free code homes owners fr row (CallS line ∷ ks) h = omega arith
 
 stage_low : (s : Stage) (d : ℕ) → d ≤ stage_place s d
 stage_low (First limit) d = omega arith
@@ -228,7 +228,7 @@ module _ (code : Code) (homes more : Homes) (owners others : Owners) (fr : View)
     h.5,
     kept_leaves ks (let a = h.0.slots_out in omega (arith, a)) (let a = h.0.cells_out in omega (arith, a)) (outer ks sc.free h.0.slots_out (omega arith) h.6) h.6,
   )
-  kept_leaves (CallS line env ∷ ks) le lc lf h = tt
+  kept_leaves (CallS line ∷ ks) le lc lf h = tt
 
 -- where nothing changes at all
 module _ (code : Code) (homes more : Homes) (owners others : Owners) (fr : View) (boxes : List ℕ) (row line : List Value) (N C : ℕ) (agrees : Agrees homes more owners others fr boxes row line N C) where

@@ -20,8 +20,7 @@ use Rattle.lua_steps.specs.Serves.{Serves, IsBody}
 use Rattle.lua_follow.specs.Spot.{BeginS}
 use Rattle.lua_follow.specs.Memory.{Begins}
 use Rattle.lua_follow.specs.Stands.{Stands, Waits}
-use Rattle.lua_meaning.proofs.KnownRuns.{known_stays}
-use Rattle.lua_follow.specs.Follows.{NarrowRun, Meets, Pauses, CodeFollows, KnownHasRules}
+use Rattle.lua_follow.specs.Follows.{Meets, Pauses, CodeFollows}
 use Rattle.lua_follow.proofs.Receives.{receives}
 use Rattle.lua_follow.proofs.Dispatch.{rows}
 use Rattle.lua_follow.proofs.Sim.{Sim, standing}
@@ -69,19 +68,13 @@ given_sim code m s vs h =
 given_left : (code : Code) (m : Machine) (s : State) (vs : List Value) → Waits code m s → s.left ≡ (given m vs).left + 0
 given_left code m s vs h = let same = received_left m.top.wants vs m in let left = h.left in omega (arith, same, left)
 
-stops : (code : Code) (m : Machine) (s t : State) (vs : List Value) (x : meaning.Stop) → IsValid code → Waits code m s → NarrowRun code (given m vs) → Until (meaning_until.given s vs) x t → Meets code (given m vs) x t
-stops code m s t vs x valid h narrow until =
-    live code (rows code valid) until.0 (given m vs) (meaning_until.given s vs) 0 (Halt x t) narrow (given_sim code m s vs h) (given_left code m s vs h) until.1
+stops : (code : Code) (m : Machine) (s t : State) (vs : List Value) (x : meaning.Stop) → IsValid code → Waits code m s → Until (meaning_until.given s vs) x t → Meets code (given m vs) x t
+stops code m s t vs x valid h until =
+    live code (rows code valid) until.0 (given m vs) (meaning_until.given s vs) 0 (Halt x t) (given_sim code m s vs h) (given_left code m s vs h) until.1
 
-asks : (code : Code) (m : Machine) (s t : State) (vs : List Value) (c : meaning.NativeCall) → IsValid code → Waits code m s → NarrowRun code (given m vs) → Asks (meaning_until.given s vs) c t → Pauses code (given m vs) c t
-asks code m s t vs c valid h narrow until =
-    live code (rows code valid) until.0 (given m vs) (meaning_until.given s vs) 0 (Pause c t) narrow (given_sim code m s vs h) (given_left code m s vs h) until.1
+asks : (code : Code) (m : Machine) (s t : State) (vs : List Value) (c : meaning.NativeCall) → IsValid code → Waits code m s → Asks (meaning_until.given s vs) c t → Pauses code (given m vs) c t
+asks code m s t vs c valid h until =
+    live code (rows code valid) until.0 (given m vs) (meaning_until.given s vs) 0 (Pause c t) (given_sim code m s vs h) (given_left code m s vs h) until.1
 
 pub code_follows : CodeFollows
 code_follows = record { opens = opens; stops = stops; asks = asks }
-
--- ---- a known state
-pub known_has_rules : KnownHasRules
-known_has_rules code m s t vs valid waits narrow known until =
-    let law = known_stays in
-    law.calls t (law.until (meaning_until.given s vs) t meaning.NoRule known until).0 (stops code m s t vs meaning.NoRule valid waits narrow until).calls

@@ -79,7 +79,7 @@ module _ (code : Code) (m : Machine) (s : State) where
         scene = scene_outside code m s (GenericLoopS f state control xs body line after env sc r pay b l ∷ ks) ks low sc end env h h.kept.0 h.kept.1 h.kept.6 h.below refl (let up = h.inner.slots_out in omega (arith, up));
         leads = λ z x. x;
       })
-  outside (CallS line env ∷ ks) low end h = inr (λ z x. x)
+  outside (CallS line ∷ ks) low end h = inr (λ z x. x)
   outside (k ∷ ks) low end h = absurd h.round
 
   never_leads : (a : ℕ) (ks : List Spot) → Never ks → Leads code m.top.function a (Exits code m.top.function ks) → ⊥

@@ -10,7 +10,6 @@ use Rattle.lua_code.specs.Valid.{IsValid}
 use Rattle.lua_meaning.specs.State.{Env, Lists, Declares, State, GenericLoopK}
 use Rattle.lua_meaning.specs.Loops.{generic_call, generic_begin, generic_turn}
 use Rattle.lua_meaning.specs.Reduce.{leave}
-use Rattle.lua_meaning.specs.Known.{called_next}
 use Rattle.lua_steps.specs.Machine.{Code, Machine, InSlots, On}
 use Rattle.lua_steps.specs.Moves.{values_from, written, slot, slots_from, with_lists, with_slot, with_slots, on_list, next, jump}
 use Rattle.lua_steps.specs.Calls.{calls, waiting}
@@ -71,9 +70,9 @@ module _ (code : Code) (valid : IsValid code) (ks : List Spot) (xs : List Text) 
 
   -- ---- the iterator is called
   call_outcome : (m : Machine) (s : State) (f state control : Value) (r pay b : ℕ) → Scene code m s ks sc env → s.left ≡ m.left → Iterates code m.top.function sc xs body line_at (After m.top.function) m.top.at r pay b
-      → slot m sc.free ≡ f → slot m (sc.free + 1) ≡ state → slot m (sc.free + 1 + 1) ≡ control → called_next s.focus s.ks ≡ Some f
+      → slot m sc.free ≡ f → slot m (sc.free + 1) ≡ state → slot m (sc.free + 1 + 1) ≡ control
       → Outcome code (Sim code) m (generic_call f state control xs body line_at rest env s (contexts ks))
-  call_outcome m s f state control r pay b h left is ef es ec calls_next =
+  call_outcome m s f state control r pay b h left is ef es ec =
       let ws = TurnS f state xs body line_at rest env sc r pay b m.top.at ∷ ks in
       let fr = waiting (InSlots (sc.free + 3) r) m.top in
       let cb = m.top.base + sc.free + 3 in
@@ -91,16 +90,16 @@ module _ (code : Code) (valid : IsValid code) (ks : List Spot) (xs : List Text) 
         lists = h.lists;
         room = h.room;
       } in
-      calls_comes code valid m m s h.homes h.owners ws fr cb (state ∷ control ∷ []) (Some line_at) env (omega arith) h.memory parked h.below h.beside left f calls_next 1
+      calls_comes code valid m m s h.homes h.owners ws fr cb (state ∷ control ∷ []) (Some line_at) (omega arith) h.memory parked h.below h.beside left f 1
       (runs_op code m (op.ForCall sc.free r) _ is.2.0
       (ap (λ l. calls code (Some l) (slot m sc.free) (slots_from m (sc.free + 1) 2) cb fr m) (line_is code m line_at is.2.1)
       ∙ ap (λ g. calls code (Some line_at) g (slots_from m (sc.free + 1) 2) cb fr m) ef ∙ ap (λ us. calls code (Some line_at) f us cb fr m) args))
 
   -- ---- the three values have come
   begin_row : (m0 m : Machine) (s : State) (vs : List Value) (n : ℕ) → run n code m0 ≡ On m → m.left ≡ m0.left → Scene code m s ks sc env
-      → IsGeneric code m.top.function sc xs line_at m.top.at (Turns code m.top.function body (After m.top.function)) (After m.top.function) → values_from m.row (m.top.base + sc.free) 3 ≡ adjusted 3 vs → called_next s.focus s.ks ≡ Some (value_at vs 0)
+      → IsGeneric code m.top.function sc xs line_at m.top.at (Turns code m.top.function body (After m.top.function)) (After m.top.function) → values_from m.row (m.top.base + sc.free) 3 ≡ adjusted 3 vs
       → Row code (Sim code) m0 s 0 (generic_begin vs xs body line_at rest env s (contexts ks))
-  begin_row m0 m s vs n runs same h is came calls_next =
+  begin_row m0 m s vs n runs same h is came =
       let w = way code m.top.function m.top.at _ is in
       let c = w.holds in
       let values = three_came m.row (m.top.base + sc.free) vs came in
@@ -109,7 +108,7 @@ module _ (code : Code) (valid : IsValid code) (ks : List Spot) (xs : List Text) 
       acts code (Sim code) m0 s _ (λ left.
       outcome_before code (Sim code) m0 (put_at w.at m) (n + w.n) _ (runs_more code n w.n m0 m _ runs (w.runs m refl))
       (call_outcome (put_at w.at m) s (value_at vs 0) (value_at vs 1) (value_at vs 2) c.0 c.1 c.2 (scene_at code m s ks sc env w.at m.left s.left h) (left ∙ sym same) (c.3, c.4, c.5, c.6, c.7, c.8)
-      values.0 (ap (value_at m.row) one ∙ values.1) (ap (value_at m.row) two ∙ values.2) calls_next))
+      values.0 (ap (value_at m.row) one ∙ values.1) (ap (value_at m.row) two ∙ values.2)))
 
   abbrev Begun : Machine → State → List Value → Bool → Type 0
   Begun m s vs listed = Stands code m (record s { focus = Lists vs; ks = contexts (GenericS xs body line_at rest env sc listed ∷ ks) }) (GenericS xs body line_at rest env sc listed ∷ ks) 0
@@ -119,18 +118,18 @@ module _ (code : Code) (valid : IsValid code) (ks : List Spot) (xs : List Text) 
       Lies code m.top m.row (λ end but. Memory code h.homes h.owners m.row m.cells m.closures s.store s.closures (m.top.base + end) (m.top.base + but)) (GenericS xs body line_at rest env sc listed ∷ ks) vs
 
   -- in slots
-  in_slots : (m : Machine) (s : State) (vs : List Value) → (h : Begun m s vs false) → Came-at m s vs false h → called_next s.focus s.ks ≡ Some (value_at vs 0) → Row code (Sim code) m s 0 (generic_begin vs xs body line_at rest env s (contexts ks))
-  in_slots m s vs h (inl c) next_is = absurd c.3
-  in_slots m s vs h (inr (inl c)) next_is = absurd c.1
-  in_slots m s vs h (inr (inr c)) next_is =
+  in_slots : (m : Machine) (s : State) (vs : List Value) → (h : Begun m s vs false) → Came-at m s vs false h → Row code (Sim code) m s 0 (generic_begin vs xs body line_at rest env s (contexts ks))
+  in_slots m s vs h (inl c) = absurd c.3
+  in_slots m s vs h (inr (inl c)) = absurd c.1
+  in_slots m s vs h (inr (inr c)) =
       begin_row m m s vs 0 refl refl
-      (record { homes = h.homes; owners = h.owners; memory = c.2; inner = h.kept.0; round = h.kept.1; kept = h.kept.2; below = h.below; room = h.room; lists = c.1.1; beside = h.beside }) c.0 c.1.0 next_is
+      (record { homes = h.homes; owners = h.owners; memory = c.2; inner = h.kept.0; round = h.kept.1; kept = h.kept.2; below = h.below; room = h.room; lists = c.1.1; beside = h.beside }) c.0 c.1.0
 
   -- in a list
-  in_list : (m : Machine) (s : State) (vs : List Value) → (h : Begun m s vs true) → Came-at m s vs true h → called_next s.focus s.ks ≡ Some (value_at vs 0) → Row code (Sim code) m s 0 (generic_begin vs xs body line_at rest env s (contexts ks))
-  in_list m s vs h (inl c) next_is = absurd c.3
-  in_list m s vs h (inr (inl c)) next_is = absurd c.1
-  in_list m s vs h (inr (inr c)) next_is =
+  in_list : (m : Machine) (s : State) (vs : List Value) → (h : Begun m s vs true) → Came-at m s vs true h → Row code (Sim code) m s 0 (generic_begin vs xs body line_at rest env s (contexts ks))
+  in_list m s vs h (inl c) = absurd c.3
+  in_list m s vs h (inr (inl c)) = absurd c.1
+  in_list m s vs h (inr (inr c)) =
       let ws = adjusted 3 vs in
       let line : List Value = written m.row (m.top.base + sc.free) ws in
       let many : length ws ≡ 3 = length_adjusted 3 vs in
@@ -141,11 +140,11 @@ module _ (code : Code) (valid : IsValid code) (ks : List Spot) (xs : List Text) 
       begin_row m (shifted m (m.top.at + 1) (lists_of ks) line) s vs 1
       (runs_op code m (op.Spread sc.free 3) _ c.0.0 (ap (λ ls. on_list ls (λ us more. next (with_slots sc.free (adjusted 3 us) (with_lists more m)))) c.1)) refl
       (scene_shift code (with_lists (lists_of ks) m) s ks sc env (m.top.at + 1) (lists_of ks) line (length_written ws m.row (m.top.base + sc.free)) (λ p lt. written_other ws m.row (m.top.base + sc.free) p (inl lt)) refl popped) c.0.1
-      (ap (λ i. values_from line (m.top.base + sc.free) i) (sym many) ∙ written_same ws m.row (m.top.base + sc.free) (omega (arith, fit.0, low, many))) next_is
+      (ap (λ i. values_from line (m.top.base + sc.free) i) (sym many) ∙ written_same ws m.row (m.top.base + sc.free) (omega (arith, fit.0, low, many)))
 
-  pub generic_lists : (m : Machine) (s : State) (vs : List Value) (listed : Bool) → Begun m s vs listed → called_next s.focus s.ks ≡ Some (value_at vs 0) → Row code (Sim code) m s 0 (generic_begin vs xs body line_at rest env s (contexts ks))
-  generic_lists m s vs true h next_is = in_list m s vs h h.here.1 next_is
-  generic_lists m s vs false h next_is = in_slots m s vs h h.here.1 next_is
+  pub generic_lists : (m : Machine) (s : State) (vs : List Value) (listed : Bool) → Begun m s vs listed → Row code (Sim code) m s 0 (generic_begin vs xs body line_at rest env s (contexts ks))
+  generic_lists m s vs true h = in_list m s vs h h.here.1
+  generic_lists m s vs false h = in_slots m s vs h h.here.1
 
   -- ---- the iterator's results have come
   module _ (m : Machine) (s : State) (f state : Value) (vs : List Value) (r pay b l : ℕ) (h : Scene code m s ks sc env) (at : m.top.at ≡ l + 1) (is : Iterates code m.top.function sc xs body line_at (After m.top.function) l r pay b)
@@ -215,12 +214,12 @@ module _ (code : Code) (valid : IsValid code) (ks : List Spot) (xs : List Text) 
 
   -- ---- the end of a turn
   pub generic_ends : (m : Machine) (s : State) (f state control : Value) (r pay b l : ℕ) (low : Scope) (end : Env) → Scene code m s (GenericLoopS f state control xs body line_at rest env sc r pay b l ∷ ks) low end
-      → Ends code m.top.function (GenericLoopS f state control xs body line_at rest env sc r pay b l ∷ ks) low m.top.at → called_next s.focus s.ks ≡ Some f
+      → Ends code m.top.function (GenericLoopS f state control xs body line_at rest env sc r pay b l ∷ ks) low m.top.at
       → Row code (Sim code) m s 0 (leave (contexts (GenericLoopS f state control xs body line_at rest env sc r pay b l ∷ ks)) end s)
-  generic_ends m s f state control r pay b l low end h leads calls_next =
+  generic_ends m s f state control r pay b l low end h leads =
       let w = way code m.top.function m.top.at _ leads in
       let two : m.top.base + (sc.free + 1 + 1) ≡ m.top.base + (sc.free + 2) = omega arith in
       let g = scene_outside code m s (GenericLoopS f state control xs body line_at rest env sc r pay b l ∷ ks) ks low sc end env h h.kept.0 h.kept.1 h.kept.6 h.below refl (let up = h.inner.slots_out in omega (arith, up)) in
       acts code (Sim code) m s _ (λ left.
       outcome_before code (Sim code) m (put_at l m) w.n _ (w.runs m refl ∙ ap (λ a. On (put_at a m)) w.holds)
-      (call_outcome (put_at l m) s f state control r pay b (scene_at code m s ks sc env l m.left s.left g) left h.kept.5 h.kept.2.1 h.kept.3.1 (ap (value_at m.row) two ∙ h.kept.4.1) calls_next))
+      (call_outcome (put_at l m) s f state control r pay b (scene_at code m s ks sc env l m.left s.left g) left h.kept.5 h.kept.2.1 h.kept.3.1 (ap (value_at m.row) two ∙ h.kept.4.1)))

@@ -1,5 +1,5 @@
 -- The values of a numeric `for` come, one after another (manual, section 3.3.5).
-use Rattle.std.proofs.Common.{◌≡◌, ℕ, suc, ◌+◌, ◌<◌, inl, inr, List, [], ◌∷◌, ◌++◌, length, refl, sym, ap, ◌∙◌, subst, arith, pos}
+use Rattle.std.proofs.Common.{◌≡◌, ℕ, ◌+◌, ◌<◌, inl, inr, List, [], ◌∷◌, ◌++◌, length, refl, sym, ap, ◌∙◌, subst, arith, pos}
 use Rattle.std.specs.Prelude.{slice_set}
 use Rattle.lua_tree.specs.Source.{Text, Block, Exp}
 use Rattle.lua_value.specs.declared.value.Value.{Value}
@@ -13,14 +13,13 @@ use Rattle.lua_steps.specs.Moves.{slot}
 use Rattle.lua_steps.specs.Exec.{constant_value}
 use Rattle.lua_steps.specs.Run.{run}
 use Rattle.lua_steps.specs.Scope.{Scope}
-use Rattle.lua_steps.specs.Stand.{At, IsInt, IsNumeric, Into}
+use Rattle.lua_steps.specs.Stand.{IsInt, IsNumeric, Into}
 use Rattle.lua_steps.specs.Serves.{IsExp, IsBlock}
 use Rattle.lua_follow.specs.Spot.{Stage, First, Limit, FirstOf, LimitOf, StepOf, Spot, ForS, contexts, to_come, so_far_of, stage_place}
 use Rattle.lua_follow.specs.Takes.{Takes, Ends, Exits, Turns}
 use Rattle.lua_follow.specs.Memory.{view}
 use Rattle.lua_follow.specs.Kept.{Shows, Staged}
 use Rattle.lua_follow.specs.Stands.{Stands, ahead}
-use Rattle.lua_follow.specs.Follows.{Narrow, NarrowAt, NarrowRun}
 use Rattle.lua_follow.proofs.Lists.{length_set, value_set, value_other}
 use Rattle.lua_follow.proofs.Comes.{acts}
 use Rattle.lua_follow.proofs.Firm.{shifted}
@@ -68,20 +67,15 @@ module _ (code : Code) (valid : IsValid code) (m : Machine) (s : State) (ks : Li
       (standing code _ _ 0 (inside stage) refl
       (eval_stands code m s (inside stage) e env sc (steady_inside code m s (inside stage) ks sc env h refl (h.inner, h.round, staged, h.kept) h.below refl) is (scoped_inside code m s (inside stage) ks sc env h refl refl)))
 
-  -- the three values have 64 bits where the loop begins
-  narrow_at : (to : Machine) (n : ℕ) → NarrowRun code m → run n code m ≡ On to → (pay base z : ℕ) → At code to.top.function to.top.at (op.ForPrep pay base z) → Narrow (slot to base) × Narrow (slot to (base + 1)) × Narrow (slot to (base + 2))
-  narrow_at to n narrow runs pay base z is = subst (λ o. NarrowAt o to) is (narrow.each n to runs)
-
-  begins : (to : Machine) (n : ℕ) (u v w : Value) → NarrowRun code m → run n code m ≡ On to → to.top.function ≡ m.top.function → to.left ≡ m.left → Scene code to s ks sc env
+  begins : (to : Machine) (n : ℕ) (u v w : Value) → run n code m ≡ On to → to.top.function ≡ m.top.function → to.left ≡ m.left → Scene code to s ks sc env
       → IsNumeric code to.top.function sc x line to.top.at (Turns code to.top.function body (λ y. IsBlock code to.top.function sc rest 0 y (Exits code to.top.function ks) (Ends code to.top.function ks)))
       (λ y. IsBlock code to.top.function sc rest 0 y (Exits code to.top.function ks) (Ends code to.top.function ks))
       → slot to sc.free ≡ u → slot to (sc.free + 1) ≡ v → slot to (sc.free + 2) ≡ w
       → Row code (Sim code) m s 0 (numeric_from u v w x body line rest env s (contexts ks))
-  begins to n u v w narrow runs same left h is eu ev ew =
-      let narrows = narrow_at to n narrow runs (suc is.0) sc.free is.1 is.2.0 in
+  begins to n u v w runs same left h is eu ev ew =
       acts code (Sim code) m s _ (λ e.
       outcome_before code (Sim code) m to n _ runs
-      (begin_outcome code valid ks x body rest env sc to s line u v w h (e ∙ sym left) is eu ev ew (subst Narrow eu narrows.0) (subst Narrow ev narrows.1) (subst Narrow ew narrows.2)))
+      (begin_outcome code valid ks x body rest env sc to s line u v w h (e ∙ sym left) is eu ev ew))
 
   first_gives : (limit : Exp) (v : Value) (k : ℕ) → Here-at (First limit) v k → Row-at (First limit) v k
   first_gives limit v k h =
@@ -98,11 +92,11 @@ module _ (code : Code) (valid : IsValid code) (m : Machine) (s : State) (ks : Li
       let g = gives_steady code m s (inside (LimitOf u step)) v k h (omega arith) in
       subst (λ i. Row-at (LimitOf u step) v i) (sym (none_paid (LimitOf u step) v k h)) (next_value (StepOf u v) step (scene_of (LimitOf u step) g) (g.kept.2, in_slot (LimitOf u step) v k h) h.here.1)
 
-  step_of_gives : (u v w : Value) (k : ℕ) → (k ≡ 0 → NarrowRun code m) → Here-at (StepOf u v) w k → Row-at (StepOf u v) w k
-  step_of_gives u v w k narrow h =
+  step_of_gives : (u v w : Value) (k : ℕ) → Here-at (StepOf u v) w k → Row-at (StepOf u v) w k
+  step_of_gives u v w k h =
       let g = gives_steady code m s (inside (StepOf u v)) w k h (omega arith) in
       let none = none_paid (StepOf u v) w k h in
-      subst (λ i. Row-at (StepOf u v) w i) (sym none) (begins m 0 u v w (narrow none) refl refl refl (scene_of (StepOf u v) g) h.here.1 g.kept.2.0 g.kept.2.1 (in_slot (StepOf u v) w k h))
+      subst (λ i. Row-at (StepOf u v) w i) (sym none) (begins m 0 u v w refl refl refl (scene_of (StepOf u v) g) h.here.1 g.kept.2.0 g.kept.2.1 (in_slot (StepOf u v) w k h))
 
   -- without a third value the step is 1
   abbrev line_of : List Value
@@ -116,21 +110,21 @@ module _ (code : Code) (valid : IsValid code) (m : Machine) (s : State) (ks : Li
   one_fits h (inl is) = slot_in code (view m.top) m.row h.room (sc.free + 2) ((fits_at code (view m.top) m.row h.room m.top.at (op.Int (sc.free + 2) (pos 1)) valid is).0)
   one_fits h (inr c) = slot_in code (view m.top) m.row h.room (sc.free + 2) ((fits_at code (view m.top) m.row h.room m.top.at (op.Constant (sc.free + 2) c.0) valid c.1).0)
 
-  limit_gives : (u v : Value) (k : ℕ) → (k ≡ 0 → NarrowRun code m) → Here-at (Limit u) v k → Row-at (Limit u) v k
-  limit_gives u v k narrow h =
+  limit_gives : (u v : Value) (k : ℕ) → Here-at (Limit u) v k → Row-at (Limit u) v k
+  limit_gives u v k h =
       let g = gives_steady code m s (inside (Limit u)) v k h (omega arith) in
       let none = none_paid (Limit u) v k h in
       let scene = scene_of (Limit u) g in
       let other = λ (p : ℕ) (ne : m.top.base + (sc.free + 2) ≡ p → ⊥). value_other m.row (m.top.base + (sc.free + 2)) p (value.Int (pos 1)) ne in
       subst (λ i. Row-at (Limit u) v i) (sym none)
-      (begins (shifted m (m.top.at + 1) m.top.lists line_of) 1 u v (value.Int (pos 1)) (narrow none) (one_runs h.here.1.0) refl refl
+      (begins (shifted m (m.top.at + 1) m.top.lists line_of) 1 u v (value.Int (pos 1)) (one_runs h.here.1.0) refl refl
       (scene_shift code m s ks sc env (m.top.at + 1) m.top.lists line_of (length_set m.row (m.top.base + (sc.free + 2)) (value.Int (pos 1))) (λ p lt. other p (λ e. omega (arith, e))) scene.lists scene) h.here.1.1
       (other (m.top.base + sc.free) (λ e. omega (arith, e)) ∙ g.kept.2) (other (m.top.base + (sc.free + 1)) (λ e. omega (arith, e)) ∙ in_slot (Limit u) v k h)
       (value_set m.row (m.top.base + (sc.free + 2)) (value.Int (pos 1)) (one_fits scene h.here.1.0)))
 
-  pub for_gives : (stage : Stage) (v : Value) (k : ℕ) → (k ≡ 0 → NarrowRun code m) → Here-at stage v k → Row-at stage v k
-  for_gives (First limit) v k narrow h = first_gives limit v k h
-  for_gives (Limit u) v k narrow h = limit_gives u v k narrow h
-  for_gives (FirstOf limit step) v k narrow h = first_of_gives limit step v k h
-  for_gives (LimitOf u step) v k narrow h = limit_of_gives u step v k h
-  for_gives (StepOf u v) w k narrow h = step_of_gives u v w k narrow h
+  pub for_gives : (stage : Stage) (v : Value) (k : ℕ) → Here-at stage v k → Row-at stage v k
+  for_gives (First limit) v k h = first_gives limit v k h
+  for_gives (Limit u) v k h = limit_gives u v k h
+  for_gives (FirstOf limit step) v k h = first_of_gives limit step v k h
+  for_gives (LimitOf u step) v k h = limit_of_gives u step v k h
+  for_gives (StepOf u v) w k h = step_of_gives u v w k h

@@ -121,8 +121,8 @@ module _ (code : Code) (m : Machine) (s : State) (homes : Homes) (owners : Owner
 
   pub handed : (n : ℕ) (ks : List Spot) (frs : List Frame) → n ≤ end → Round ks → Below code homes owners m.row n ks frs → Handed code m s vs ks frs
   handed n [] frs le round below = absurd round
-  handed n (CallS line env ∷ ks) [] le round below = absurd below
-  handed n (CallS line env ∷ ks) (fr ∷ frs) le round below =
+  handed n (CallS line ∷ ks) [] le round below = absurd below
+  handed n (CallS line ∷ ks) (fr ∷ frs) le round below =
       let to = record m { top = fr; below = frs } in
       let low = floor_free code homes owners (view fr) m.row ks below.1.kept in
       record {

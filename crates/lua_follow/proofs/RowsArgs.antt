@@ -9,7 +9,6 @@ use Rattle.lua_code.specs.declared.op.Op.TheVariants as op
 use Rattle.lua_code.specs.Valid.{IsValid}
 use Rattle.lua_meaning.specs.State.{Env, Wanted, State, CallK, AfterK}
 use Rattle.lua_meaning.specs.Calls as meaning_calls
-use Rattle.lua_meaning.specs.Known.{called_next}
 use Rattle.lua_steps.specs.Machine as machine
 use Rattle.lua_steps.specs.Machine.{Code, Machine, Frame, InSlots, OnTop, Went, On, Off, Paused}
 use Rattle.lua_steps.specs.Moves.{values_from, slot, slots_from, with_lists, on_list}
@@ -32,7 +31,7 @@ use Rattle.lua_follow.proofs.Runs.{runs_op}
 use Rattle.lua_follow.proofs.Sim.{Sim, Outcome}
 
 -- ---- a call for which a frame waits
-module _ (code : Code) (valid : IsValid code) (m0 m : Machine) (s : State) (homes : Homes) (owners : Owners) (ws : List Spot) (fr : Frame) (cb : ℕ) (vs : List Value) (line : Option ℕ) (env : Env)
+module _ (code : Code) (valid : IsValid code) (m0 m : Machine) (s : State) (homes : Homes) (owners : Owners) (ws : List Spot) (fr : Frame) (cb : ℕ) (vs : List Value) (line : Option ℕ)
     (le : fr.base + free ws ≤ cb) (memory : Memory code homes owners m.row m.cells m.closures s.store s.closures (fr.base + floor ws) (fr.base + floor ws)) (parked : Parked code homes owners m.row fr ws)
     (below : Below code homes owners m.row fr.base ws m.below) (beside : Beside m.aside s.aside) (left : s.left ≡ m.left) where
   abbrev leaves : Left code m s
@@ -50,26 +49,25 @@ module _ (code : Code) (valid : IsValid code) (m0 m : Machine) (s : State) (home
         waits = record { ks = ws; is = refl; homes = homes; owners = owners; memory = memory; parked = parked; below = below; beside = beside; left = omega (arith, e) };
       }
 
-  pub calls_comes : (f : Value) → called_next s.focus s.ks ≡ Some f → come.Comes code (Sim code) m0 (calls code line f vs cb fr m) (meaning_calls.calls line f vs env s (contexts ws))
-  calls_comes (value.Func k) calls = enters code valid m0 m s homes owners line env ws fr m.below cb vs le memory parked below beside left k calls
-  calls_comes (value.Native k) calls = native k s.left m.left left
-  calls_comes value.Nil calls = refused_left code (Sim code) m0 m s line (refusal.Call value.Nil) (contexts ws) left leaves
-  calls_comes (value.Bool b) calls = refused_left code (Sim code) m0 m s line (refusal.Call (value.Bool b)) (contexts ws) left leaves
-  calls_comes (value.Int i) calls = refused_left code (Sim code) m0 m s line (refusal.Call (value.Int i)) (contexts ws) left leaves
-  calls_comes (value.Text i) calls = refused_left code (Sim code) m0 m s line (refusal.Call (value.Text i)) (contexts ws) left leaves
-  calls_comes (value.Table i) calls = refused_left code (Sim code) m0 m s line (refusal.Call (value.Table i)) (contexts ws) left leaves
-  calls_comes (value.Thread i) calls = refused_left code (Sim code) m0 m s line (refusal.Call (value.Thread i)) (contexts ws) left leaves
-  calls_comes (value.Packed i) calls = refused_left code (Sim code) m0 m s line (refusal.Call (value.Packed i)) (contexts ws) left leaves
+  pub calls_comes : (f : Value) → come.Comes code (Sim code) m0 (calls code line f vs cb fr m) (meaning_calls.calls line f vs s (contexts ws))
+  calls_comes (value.Func k) = enters code valid m0 m s homes owners line ws fr m.below cb vs le memory parked below beside left line (contexts ws) k
+  calls_comes (value.Native k) = native k s.left m.left left
+  calls_comes value.Nil = refused_left code (Sim code) m0 m s line (refusal.Call value.Nil) (contexts ws) left leaves
+  calls_comes (value.Bool b) = refused_left code (Sim code) m0 m s line (refusal.Call (value.Bool b)) (contexts ws) left leaves
+  calls_comes (value.Int i) = refused_left code (Sim code) m0 m s line (refusal.Call (value.Int i)) (contexts ws) left leaves
+  calls_comes (value.Text i) = refused_left code (Sim code) m0 m s line (refusal.Call (value.Text i)) (contexts ws) left leaves
+  calls_comes (value.Table i) = refused_left code (Sim code) m0 m s line (refusal.Call (value.Table i)) (contexts ws) left leaves
+  calls_comes (value.Thread i) = refused_left code (Sim code) m0 m s line (refusal.Call (value.Thread i)) (contexts ws) left leaves
+  calls_comes (value.Packed i) = refused_left code (Sim code) m0 m s line (refusal.Call (value.Packed i)) (contexts ws) left leaves
 
 -- ---- the body's own call
 pub record Called (code : Code) (homes : Homes) (owners : Owners) (row : List Value) (n : ℕ) (ks : List Spot) (frs : List Frame) : Type 0 where
   pub line : Option ℕ
-  pub env : Env
   pub ws : List Spot
   pub fr : Frame
   pub more : List Frame
   pub frames : frs ≡ fr ∷ more
-  pub is : meaning_calls.to_call (contexts ks) ≡ CallK line env ∷ contexts ws
+  pub is : meaning_calls.to_call (contexts ks) ≡ CallK line ∷ contexts ws
   pub le : fr.base + free ws ≤ n
   pub parked : Parked code homes owners row fr ws
   pub below : Below code homes owners row fr.base ws more
@@ -77,13 +75,13 @@ pub record Called (code : Code) (homes : Homes) (owners : Owners) (row : List Va
 module _ (code : Code) (homes : Homes) (owners : Owners) (row : List Value) (n : ℕ) where
   past_one : (k : Spot) (ks : List Spot) (frs : List Frame) → meaning_calls.to_call (contexts (k ∷ ks)) ≡ meaning_calls.to_call (contexts ks) → Called code homes owners row n ks frs → Called code homes owners row n (k ∷ ks) frs
   past_one k ks frs e c =
-      record { line = c.line; env = c.env; ws = c.ws; fr = c.fr; more = c.more; frames = c.frames; is = e ∙ c.is; le = c.le; parked = c.parked; below = c.below }
+      record { line = c.line; ws = c.ws; fr = c.fr; more = c.more; frames = c.frames; is = e ∙ c.is; le = c.le; parked = c.parked; below = c.below }
 
   pub called : (ks : List Spot) (frs : List Frame) → Round ks → Below code homes owners row n ks frs → Called code homes owners row n ks frs
   called [] frs round h = absurd round
-  called (CallS line env ∷ ks) [] round h = absurd h
-  called (CallS line env ∷ ks) (fr ∷ frs) round h =
-      record { line = line; env = env; ws = ks; fr = fr; more = frs; frames = refl; is = refl; le = h.0; parked = h.1; below = h.2 }
+  called (CallS line ∷ ks) [] round h = absurd h
+  called (CallS line ∷ ks) (fr ∷ frs) round h =
+      record { line = line; ws = ks; fr = fr; more = frs; frames = refl; is = refl; le = h.0; parked = h.1; below = h.2 }
   called (BlockS rest env sc ∷ ks) frs round h = past_one (BlockS rest env sc) ks frs refl (called ks frs round h)
   called (WhileLoopS e body rest env sc c ∷ ks) frs round h = past_one (WhileLoopS e body rest env sc c) ks frs refl (called ks frs round h)
   called (RepeatLoopS body e rest env sc x y ∷ ks) frs round h = past_one (RepeatLoopS body e rest env sc x y) ks frs refl (called ks frs round h)
@@ -94,7 +92,7 @@ module _ (code : Code) (homes : Homes) (owners : Owners) (row : List Value) (n :
 
 -- ---- the frame that waits for the results
 module _ (code : Code) (valid : IsValid code) (m : Machine) (s : State) (ks : List Spot) (f : Value) (at : ℕ) (ss : Suffixes) (how : Wanted) (env : Env) (sc : Scope) (vs : List Value)
-    (h : Firm code m s ks) (suits : Suits how ks) (scoped : Scoped h.homes h.owners (view m.top) sc env (floor ks) (cells_in ks)) (next : called_next s.focus s.ks ≡ Some f) where
+    (h : Firm code m s ks) (suits : Suits how ks) (scoped : Scoped h.homes h.owners (view m.top) sc env (floor ks) (cells_in ks)) where
   abbrev d : ℕ
   d = free ks
 
@@ -130,14 +128,14 @@ module _ (code : Code) (valid : IsValid code) (m : Machine) (s : State) (ks : Li
 
   -- the row of an operation that calls
   abbrev Call-row : Type 0
-  Call-row = s.left ≡ m.left → Outcome code (Sim code) m (meaning_calls.calls (Some at) f vs env s (AfterK ss how env ∷ contexts ks))
+  Call-row = s.left ≡ m.left → Outcome code (Sim code) m (meaning_calls.calls (Some at) f vs s (AfterK ss how env ∷ contexts ks))
 
   call_with : (o : Op) (c : Coming) (ls : List (List Value)) (fr : Frame) (cb : ℕ) → At code m.top.function m.top.at o → perform code o m ≡ calls code (Some at) f vs cb fr (with_lists ls m) → fr.base ≡ m.top.base → m.top.base + d ≤ cb
       → Parked code h.homes h.owners m.row fr (AfterS ss how env sc c ∷ ks) → Call-row
   call_with o c ls fr cb is does same le parked left =
-      calls_comes code valid m (with_lists ls m) s h.homes h.owners (AfterS ss how env sc c ∷ ks) fr cb vs (Some at) env (omega (arith, same, le))
+      calls_comes code valid m (with_lists ls m) s h.homes h.owners (AfterS ss how env sc c ∷ ks) fr cb vs (Some at) (omega (arith, same, le))
       (subst (λ b. Memory code h.homes h.owners m.row m.cells m.closures s.store s.closures (b + floor ks) (b + floor ks)) (sym same) h.memory) parked
-      (subst (λ b. Below code h.homes h.owners m.row b ks m.below) (sym same) h.below) h.beside left f next 1 (runs_op code m o _ is does)
+      (subst (λ b. Below code h.homes h.owners m.row b ks m.below) (sym same) h.below) h.beside left f 1 (runs_op code m o _ is does)
 
   -- ---- arguments in slots
   abbrev Args-are : ℕ → Type 0

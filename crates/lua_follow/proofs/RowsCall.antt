@@ -6,6 +6,7 @@ use Rattle.lua_tree.specs.Source.{Text, Body, body}
 use Rattle.lua_value.specs.declared.value.Value.{Value}
 use Rattle.lua_value.specs.declared.value.Value.TheVariants as value
 use Rattle.lua_value.specs.Lists.{value_at, adjusted}
+use Rattle.lua_model.specs.declared.refusal.Refusal.TheVariants as refusal
 use Rattle.lua_code.specs.declared.function.Shape.{Shape}
 use Rattle.lua_code.specs.Routine.{Routine}
 use Rattle.lua_code.specs.Valid.{IsValid}
@@ -13,12 +14,11 @@ use Rattle.lua_meaning.specs.State as meaning
 use Rattle.lua_meaning.specs.State.{Env, Named, Focus, Declares, Lists, State, Step, Next, Halt, Pause, Context, CallK}
 use Rattle.lua_meaning.specs.Calls as meaning_calls
 use Rattle.lua_meaning.specs.Moves.{ticked}
-use Rattle.lua_meaning.specs.Known.{called_next}
 use Rattle.lua_steps.specs.declared.scope.Place.{Place}
 use Rattle.lua_steps.specs.declared.scope.Place.TheVariants.{InSlot, InCell, InUp, Hidden}
 use Rattle.lua_steps.specs.declared.scope.Known.{Known}
 use Rattle.lua_steps.specs.Machine.{Code, Machine, Frame, Closure, On}
-use Rattle.lua_steps.specs.Moves.{written, paid, values_from}
+use Rattle.lua_steps.specs.Moves.{written, paid, values_from, refused}
 use Rattle.lua_steps.specs.Calls.{room, grown, rest_of, opened, begins, enter}
 use Rattle.lua_follow.specs.Spot.{Spot, CallS, contexts, free}
 use Rattle.lua_follow.specs.Memory.{Homes, Owners, owned_below, View, view, HasAll, Ups, Up, Has, Begins, Closes, ClosesAll, Memory}
@@ -28,7 +28,7 @@ use Rattle.lua_follow.proofs.Lists.{length_written, written_same, written_other,
 use Rattle.lua_follow.proofs.Keep.{kept_leaves, floor_free}
 use Rattle.lua_follow.proofs.Places.{owner_below, owner_above, rows_row, rows_higher, rows_but}
 use Rattle.lua_follow.proofs.Frames.{room_for_longer, awaits_longer, below_map}
-use Rattle.lua_follow.proofs.Comes.{Comes, comes_same}
+use Rattle.lua_follow.proofs.Comes.{Comes, comes_same, refused_left}
 use Rattle.lua_follow.proofs.TicksPaid.{ticked_comes}
 use Rattle.lua_follow.proofs.Scenes.{Scene}
 use Rattle.lua_follow.proofs.RowsDeclares.{declares_near}
@@ -68,11 +68,6 @@ pub record Paired (code : Code) (homes : Homes) (ms : List Closure) (k : ℕ) (c
   pub is : slice_get ms k ≡ Some made
   pub closes : Closes code homes made c
 
-no_closure : {A : Type 0} (cs : List A) (k : ℕ) → slice_get cs k ≡ None → length cs ≤ k
-no_closure [] k e = omega arith
-no_closure (c ∷ cs) zero e = absurd (cc)
-no_closure (c ∷ cs) (suc k) e = let h = no_closure cs k e in omega (arith, h)
-
 some_is : {A : Type 0} (x y : A) → Some x ≡ Some y → x ≡ y
 some_is x y e = cc
 
@@ -105,7 +100,7 @@ le_refl : (n : ℕ) → n ≤ n
 le_refl n = omega arith
 
 -- ---- a body is entered, for which the frame `fr` waits
-module _ (code : Code) (valid : IsValid code) (m0 m : Machine) (s : State) (homes : Homes) (owners : Owners) (line : Option ℕ) (env : Env) (ws : List Spot) (fr : Frame) (frs : List Frame) (cb : ℕ) (vs : List Value)
+module _ (code : Code) (valid : IsValid code) (m0 m : Machine) (s : State) (homes : Homes) (owners : Owners) (line : Option ℕ) (ws : List Spot) (fr : Frame) (frs : List Frame) (cb : ℕ) (vs : List Value)
     (le : fr.base + free ws ≤ cb) (memory : Memory code homes owners m.row m.cells m.closures s.store s.closures (fr.base + floor ws) (fr.base + floor ws)) (parked : Parked code homes owners m.row fr ws)
     (below : Below code homes owners m.row fr.base ws frs) (beside : Beside m.aside s.aside) (left : s.left ≡ m.left) where
   abbrev end : ℕ
@@ -168,7 +163,7 @@ module _ (code : Code) (valid : IsValid code) (m0 m : Machine) (s : State) (home
       }) below
 
   scene : (r : Routine) (c : Closure) (names : List Known) (dots : Bool) (xs : List Text) (cenv : Env) → slice_get code c.function ≡ Some r → r.shape.params ≡ length xs → r.shape.has_dots ≡ dots → Ups homes c.cells names cenv.locals
-      → Scene code (entered r c) s (CallS line env ∷ ws) (record { names = names; free = 0; cells = 0 }) (record cenv { dots = if dots then drop (length xs) vs else [] })
+      → Scene code (entered r c) s (CallS line ∷ ws) (record { names = names; free = 0; cells = 0 }) (record cenv { dots = if dots then drop (length xs) vs else [] })
   scene r c names dots xs cenv is params has ups =
       record {
         homes = homes;
@@ -212,37 +207,39 @@ module _ (code : Code) (valid : IsValid code) (m0 m : Machine) (s : State) (home
       ∙ written_same (adjusted r.shape.params vs) (grown (cb + room r.shape) m.row) cb (omega (arith, whole.2, covers, grew, many)) ∙ ap (λ n. adjusted n vs) params
 
   enter_body : (c : Closure) (names : List Known) (b : Body) (cenv : Env) → Begins code c.function names b → Ups homes c.cells names cenv.locals
-      → Comes code (Sim code) m0 (begins (slice_get code c.function) c vs cb (fr ∷ frs) m) (ticked s.left s (meaning_calls.begins b vs cenv) (CallK line env ∷ contexts ws))
+      → Comes code (Sim code) m0 (begins (slice_get code c.function) c vs cb (fr ∷ frs) m) (ticked s.left s (meaning_calls.begins b vs cenv) (CallK line ∷ contexts ws))
   enter_body c names (body xs dots b) cenv (r, is, params, has, pay, pays, code_is) ups i runs =
-      ticked_comes code (Sim code) m0 m (entered r c) s (meaning_calls.begins (body xs dots b) vs cenv) (CallK line env ∷ contexts ws) pay i
+      ticked_comes code (Sim code) m0 m (entered r c) s (meaning_calls.begins (body xs dots b) vs cenv) (CallK line ∷ contexts ws) pay i
       (λ t. On (record t { top = opened c r vs cb; below = fr ∷ frs; row = written (grown (cb + room r.shape) t.row) cb (adjusted r.shape.params vs) })) s.left
       (runs ∙ ap (λ o. begins o c vs cb (fr ∷ frs) m) is
       ∙ ap (λ n. paid n m (λ t. On (record t { top = opened c r vs cb; below = fr ∷ frs; row = written (grown (cb + room r.shape) t.row) cb (adjusted r.shape.params vs) }))) pays) left beside.heap refl
       (λ l. (0, record (entered r c) { left = l }, refl, refl))
       (λ l j. (
         suc (length xs),
-        declares_near code valid (CallS line env ∷ ws) b pay xs (record (entered r c) { left = l }) (record s { left = j }) vs (record { names = names; free = 0; cells = 0 })
+        declares_near code valid (CallS line ∷ ws) b pay xs (record (entered r c) { left = l }) (record s { left = j }) vs (record { names = names; free = 0; cells = 0 })
             (record cenv { dots = if dots then drop (length xs) vs else [] }) (scene_left r c names dots xs cenv l j (scene r c names dots xs cenv is params has ups)) code_is (params_in r xs c.function is params),
       ))
     where
       scene_left : (r : Routine) (c : Closure) (names : List Known) (dots : Bool) (xs : List Text) (cenv : Env) (l j : ℕ)
-          → Scene code (entered r c) s (CallS line env ∷ ws) (record { names = names; free = 0; cells = 0 }) (record cenv { dots = if dots then drop (length xs) vs else [] })
-          → Scene code (record (entered r c) { left = l }) (record s { left = j }) (CallS line env ∷ ws) (record { names = names; free = 0; cells = 0 }) (record cenv { dots = if dots then drop (length xs) vs else [] })
+          → Scene code (entered r c) s (CallS line ∷ ws) (record { names = names; free = 0; cells = 0 }) (record cenv { dots = if dots then drop (length xs) vs else [] })
+          → Scene code (record (entered r c) { left = l }) (record s { left = j }) (CallS line ∷ ws) (record { names = names; free = 0; cells = 0 }) (record cenv { dots = if dots then drop (length xs) vs else [] })
       scene_left r c names dots xs cenv l j h =
           record { homes = h.homes; owners = h.owners; memory = h.memory; inner = h.inner; round = h.round; kept = h.kept; below = h.below; room = h.room; lists = h.lists; beside = h.beside }
 
-  enter_in : (k : ℕ) (o : Option meaning.Closure) → slice_get s.closures k ≡ o → called_next s.focus s.ks ≡ Some (value.Func k)
-      → Comes code (Sim code) m0 (enter code (slice_get m.closures k) vs cb (fr ∷ frs) m) (meaning_calls.enter o vs s (CallK line env ∷ contexts ws))
-  enter_in k None e calls =
-      λ n runs. record {
-        calls = record { function = k; called = calls; unmade = no_closure s.closures k e };
-        n = n;
-        runs = runs ∙ ap (λ o. enter code o vs cb (fr ∷ frs) m) (unpaired code homes m.closures s.closures k memory.closures e);
-      }
-  enter_in k (Some c) e calls =
+  -- at the line `at`, where the contexts js are left if it is refused
+  enter_in : (at : Option ℕ) (js : List Context) (k : ℕ) (o : Option meaning.Closure) → slice_get s.closures k ≡ o
+      → Comes code (Sim code) m0 (enter code (slice_get m.closures k) at (value.Func k) vs cb (fr ∷ frs) m) (meaning_calls.enter o at (value.Func k) vs s (CallK line ∷ contexts ws) js)
+  enter_in at js k None e =
+      comes_same code (Sim code) m0 (refused at (refusal.Call (value.Func k)) m) (enter code (slice_get m.closures k) at (value.Func k) vs cb (fr ∷ frs) m)
+      (meaning_calls.enter None at (value.Func k) vs s (CallK line ∷ contexts ws) js) (meaning_calls.enter None at (value.Func k) vs s (CallK line ∷ contexts ws) js)
+      (ap (λ o. enter code o at (value.Func k) vs cb (fr ∷ frs) m) (unpaired code homes m.closures s.closures k memory.closures e)) refl
+      (refused_left code (Sim code) m0 m s at (refusal.Call (value.Func k)) js left (record { homes = homes; cells = memory.cells; closures = memory.closures; beside = beside }))
+  enter_in at js k (Some c) e =
       let p = paired code homes m.closures s.closures k c memory.closures e in
-      comes_same code (Sim code) m0 (enter code (Some p.made) vs cb (fr ∷ frs) m) (enter code (slice_get m.closures k) vs cb (fr ∷ frs) m) (meaning_calls.enter (Some c) vs s (CallK line env ∷ contexts ws))
-      (meaning_calls.enter (Some c) vs s (CallK line env ∷ contexts ws)) (ap (λ o. enter code o vs cb (fr ∷ frs) m) p.is) refl (enter_body p.made p.closes.names c.body c.env p.closes.begins p.closes.ups)
+      comes_same code (Sim code) m0 (enter code (Some p.made) at (value.Func k) vs cb (fr ∷ frs) m) (enter code (slice_get m.closures k) at (value.Func k) vs cb (fr ∷ frs) m)
+      (meaning_calls.enter (Some c) at (value.Func k) vs s (CallK line ∷ contexts ws) js) (meaning_calls.enter (Some c) at (value.Func k) vs s (CallK line ∷ contexts ws) js)
+      (ap (λ o. enter code o at (value.Func k) vs cb (fr ∷ frs) m) p.is) refl (enter_body p.made p.closes.names c.body c.env p.closes.begins p.closes.ups)
 
-  pub enters : (k : ℕ) → called_next s.focus s.ks ≡ Some (value.Func k) → Comes code (Sim code) m0 (enter code (slice_get m.closures k) vs cb (fr ∷ frs) m) (meaning_calls.enter (slice_get s.closures k) vs s (CallK line env ∷ contexts ws))
-  enters k calls = enter_in k (slice_get s.closures k) refl calls
+  pub enters : (at : Option ℕ) (js : List Context) (k : ℕ)
+      → Comes code (Sim code) m0 (enter code (slice_get m.closures k) at (value.Func k) vs cb (fr ∷ frs) m) (meaning_calls.enter (slice_get s.closures k) at (value.Func k) vs s (CallK line ∷ contexts ws) js)
+  enters at js k = enter_in at js k (slice_get s.closures k) refl

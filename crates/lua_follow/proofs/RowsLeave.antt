@@ -34,10 +34,10 @@ module _ (code : Code) (valid : IsValid code) (m : Machine) (s : State) (sc : Sc
   abbrev Leaves : List Spot → Type 0
   Leaves ks = Row code (Sim code) m s 0 (leave (contexts ks) env s)
 
-  pub call_leave : (line : Option ℕ) (outside : Env) (ks : List Spot) → Scene code m s (CallS line outside ∷ ks) sc env → Ends code m.top.function (CallS line outside ∷ ks) sc m.top.at → Leaves (CallS line outside ∷ ks)
-  call_leave line outside ks h c =
+  pub call_leave : (line : Option ℕ) (ks : List Spot) → Scene code m s (CallS line ∷ ks) sc env → Ends code m.top.function (CallS line ∷ ks) sc m.top.at → Leaves (CallS line ∷ ks)
+  call_leave line ks h c =
       let w = way code m.top.function m.top.at _ c in
-      let g = handed code (put_at w.at m) s h.homes h.owners [] (m.top.base + sc.free) (m.top.base + sc.free) h.memory (le_refl (m.top.base + sc.free)) h.beside m.top.base (CallS line outside ∷ ks) m.below (omega arith) tt h.below in
+      let g = handed code (put_at w.at m) s h.homes h.owners [] (m.top.base + sc.free) (m.top.base + sc.free) h.memory (le_refl (m.top.base + sc.free)) h.beside m.top.base (CallS line ∷ ks) m.below (omega arith) tt h.below in
       quiet code (Sim code) m g.to s (record s { focus = Lists []; ks = contexts g.spots }) 0 (w.n + 1) _
       (runs_more code w.n 1 m (put_at w.at m) _ (w.runs m refl) (runs_op code (put_at w.at m) (op.Return w.holds.0 0) _ w.holds.1 g.does)) g.left (λ lt. ap (λ a. a.heap) g.aside) g.is refl
       (standing code g.to _ 0 g.spots refl g.stands)

@@ -140,8 +140,8 @@ module _ (code : Code) (valid : IsValid code) (m : Machine) (s : State) (f : Val
       let mid = shifted m (m.top.at + 1) ((f ∷ vs) ∷ []) m.row in
       let there : m.top.at + 2 ≡ m.top.at + 1 + 1 = omega arith in
       acts code (Sim code) m (Begun []) _ (λ left.
-      calls_comes code valid m (with_lists [] mid) (Begun []) h.homes h.owners [] (waiting OnTop (with_lists [] mid).top) m.top.base vs None (record { locals = []; dots = [] }) (omega arith) c.2
-      (record { takes = subst (λ a. At code m.top.function a op.ReturnList) there c.0.2; awaits = tt; first = refl; kept = tt; lists = refl; room = tt }) h.below h.beside left f refl 2
+      calls_comes code valid m (with_lists [] mid) (Begun []) h.homes h.owners [] (waiting OnTop (with_lists [] mid).top) m.top.base vs None (omega arith) c.2
+      (record { takes = subst (λ a. At code m.top.function a op.ReturnList) there c.0.2; awaits = tt; first = refl; kept = tt; lists = refl; room = tt }) h.below h.beside left f 2
       (runs_more code 1 1 m mid _ (runs_op code m op.Append _ c.0.0 (ap (λ ls. on_list ls (λ us l. on_list l (λ ws more. next (with_lists ((ws ++ us) ∷ more) m)))) c.1))
       (runs_op code mid op.Start _ c.0.1 refl)))
 

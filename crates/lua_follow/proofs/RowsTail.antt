@@ -8,7 +8,6 @@ use Rattle.lua_code.specs.declared.op.Op.TheVariants as op
 use Rattle.lua_code.specs.Valid.{IsValid}
 use Rattle.lua_meaning.specs.State.{Env, Wanted, Result, Values, Lists, State, Context, CallK, AfterK}
 use Rattle.lua_meaning.specs.Calls as meaning_calls
-use Rattle.lua_meaning.specs.Known.{called_next}
 use Rattle.lua_meaning.specs.Reduce.{reduce}
 use Rattle.lua_steps.specs.Machine.{Code, Machine, OnTop}
 use Rattle.lua_steps.specs.Moves.{values_from, slot, slots_from, with_lists, on_list}
@@ -56,47 +55,47 @@ module _ (code : Code) (valid : IsValid code) (m : Machine) (s : State) (sc : Sc
   tail_parks ls lists is =
       record { takes = is; awaits = tt; first = refl; kept = (h.kept.0, h.kept.1, h.kept.2, refl, h.kept.3); lists = lists; room = h.room }
 
-  tail_enters : (ls : List (List Value)) → s.left ≡ m.left → (k : ℕ) → called_next s.focus s.ks ≡ Some (value.Func k)
-      → come.Comes code (Sim code) m (enter code (slice_get m.closures k) vs m.top.base m.below (with_lists ls m)) (meaning_calls.enter (slice_get s.closures k) vs s (meaning_calls.to_call K))
-  tail_enters ls left k next =
+  tail_enters : (ls : List (List Value)) → s.left ≡ m.left → (k : ℕ)
+      → come.Comes code (Sim code) m (enter code (slice_get m.closures k) (Some at) (value.Func k) vs m.top.base m.below (with_lists ls m)) (meaning_calls.enter (slice_get s.closures k) (Some at) (value.Func k) vs s (meaning_calls.to_call K) K)
+  tail_enters ls left k =
       let c = called code h.homes h.owners m.row m.top.base ks m.below h.kept.2 h.below in
       let low = floor_free code h.homes h.owners (view c.fr) m.row c.ws c.parked.kept in
-      comes_same code (Sim code) m (enter code (slice_get m.closures k) vs m.top.base (c.fr ∷ c.more) (with_lists ls m)) _ (meaning_calls.enter (slice_get s.closures k) vs s (CallK c.line c.env ∷ contexts c.ws)) _
-      (ap (λ frs. enter code (slice_get m.closures k) vs m.top.base frs (with_lists ls m)) c.frames) (ap (λ js. meaning_calls.enter (slice_get s.closures k) vs s js) c.is)
-      (enters code valid m (with_lists ls m) s h.homes h.owners c.line c.env c.ws c.fr c.more m.top.base vs c.le
+      comes_same code (Sim code) m (enter code (slice_get m.closures k) (Some at) (value.Func k) vs m.top.base (c.fr ∷ c.more) (with_lists ls m)) _ (meaning_calls.enter (slice_get s.closures k) (Some at) (value.Func k) vs s (CallK c.line ∷ contexts c.ws) K) _
+      (ap (λ frs. enter code (slice_get m.closures k) (Some at) (value.Func k) vs m.top.base frs (with_lists ls m)) c.frames) (ap (λ js. meaning_calls.enter (slice_get s.closures k) (Some at) (value.Func k) vs s js K) c.is)
+      (enters code valid m (with_lists ls m) s h.homes h.owners c.line c.ws c.fr c.more m.top.base vs c.le
       (record {
         homed = h.memory.homed;
         rows = rows_but h.homes h.owners m.row s.store (c.fr.base + floor c.ws) (m.top.base + sc.free) (c.fr.base + floor c.ws) (let a = c.le in omega (arith, a, low))
             (rows_lower h.homes h.owners m.row s.store (m.top.base + sc.free) (c.fr.base + floor c.ws) (m.top.base + sc.free) (let a = c.le in omega (arith, a, low)) h.memory.rows);
         cells = h.memory.cells;
         closures = h.memory.closures;
-      }) c.parked c.below h.beside left k next)
+      }) c.parked c.below h.beside left (Some at) K k)
 
-  tail_other : (ls : List (List Value)) (cb : ℕ) → ls ≡ lists_of ks → m.top.base + sc.free ≤ cb → At code m.top.function (m.top.at + 1) op.ReturnList → s.left ≡ m.left → (f : Value) → called_next s.focus s.ks ≡ Some f
-      → come.Comes code (Sim code) m (calls code (Some at) f vs cb (waiting OnTop (record m.top { lists = ls })) (with_lists ls m)) (meaning_calls.calls (Some at) f vs env s K)
-  tail_other ls cb lists le is left f next =
-      calls_comes code valid m (with_lists ls m) s h.homes h.owners waits (waiting OnTop (record m.top { lists = ls })) cb vs (Some at) env le h.memory (tail_parks ls lists is) h.below h.beside left f next
+  tail_other : (ls : List (List Value)) (cb : ℕ) → ls ≡ lists_of ks → m.top.base + sc.free ≤ cb → At code m.top.function (m.top.at + 1) op.ReturnList → s.left ≡ m.left → (f : Value)
+      → come.Comes code (Sim code) m (calls code (Some at) f vs cb (waiting OnTop (record m.top { lists = ls })) (with_lists ls m)) (meaning_calls.calls (Some at) f vs s K)
+  tail_other ls cb lists le is left f =
+      calls_comes code valid m (with_lists ls m) s h.homes h.owners waits (waiting OnTop (record m.top { lists = ls })) cb vs (Some at) le h.memory (tail_parks ls lists is) h.below h.beside left f
 
-  tail_comes : (ls : List (List Value)) (cb : ℕ) → ls ≡ lists_of ks → m.top.base + sc.free ≤ cb → At code m.top.function (m.top.at + 1) op.ReturnList → s.left ≡ m.left → (f : Value) → called_next s.focus s.ks ≡ Some f
-      → come.Comes code (Sim code) m (tail_calls code at f vs cb (waiting OnTop (record m.top { lists = ls })) (with_lists ls m)) (meaning_calls.tail_calls at f vs env s K)
-  tail_comes ls cb lists le is left (value.Func k) next = tail_enters ls left k next
-  tail_comes ls cb lists le is left f next = tail_other ls cb lists le is left f next
+  tail_comes : (ls : List (List Value)) (cb : ℕ) → ls ≡ lists_of ks → m.top.base + sc.free ≤ cb → At code m.top.function (m.top.at + 1) op.ReturnList → s.left ≡ m.left → (f : Value)
+      → come.Comes code (Sim code) m (tail_calls code at f vs cb (waiting OnTop (record m.top { lists = ls })) (with_lists ls m)) (meaning_calls.tail_calls at f vs s K)
+  tail_comes ls cb lists le is left (value.Func k) = tail_enters ls left k
+  tail_comes ls cb lists le is left f = tail_other ls cb lists le is left f
 
   abbrev Tail-row : Value → Type 0
-  Tail-row f = called_next s.focus s.ks ≡ Some f → s.left ≡ m.left → Outcome code (Sim code) m (meaning_calls.tail_calls at f vs env s K)
+  Tail-row f = s.left ≡ m.left → Outcome code (Sim code) m (meaning_calls.tail_calls at f vs s K)
 
   fixed_tail : (f : Value) (mm : ℕ) → slot m sc.free ≡ f → ((k : ℕ) → mm ≡ sc.free + 1 + k → values_from m.row (m.top.base + (sc.free + 1)) k ≡ vs) → m.top.lists ≡ lists_of ks
       → FixedCall code m.top.function sc.free at AsResult (TakesAll code m.top.function (TailS sc ∷ ks)) m.top.at mm → Tail-row f
-  fixed_tail f mm function args lists (k, many, is, returns) next left =
-      tail_comes m.top.lists (m.top.base + sc.free + 1) lists (omega arith) returns left f next 1
+  fixed_tail f mm function args lists (k, many, is, returns) left =
+      tail_comes m.top.lists (m.top.base + sc.free + 1) lists (omega arith) returns left f 1
       (runs_op code m (op.TailCall sc.free k) _ is.0
       (ap (λ l. tail_calls code l (slot m sc.free) (slots_from m (sc.free + 1) k) (m.top.base + sc.free + 1) (waiting OnTop m.top) m) (line_is code m at is.1)
       ∙ ap (λ g. tail_calls code at g (slots_from m (sc.free + 1) k) (m.top.base + sc.free + 1) (waiting OnTop m.top) m) function
       ∙ ap (λ us. tail_calls code at f us (m.top.base + sc.free + 1) (waiting OnTop m.top) m) (args k many)))
 
   listed_tail : (f : Value) → m.top.lists ≡ (f ∷ vs) ∷ lists_of ks → ListedCall code m.top.function sc.free at AsResult (TakesAll code m.top.function (TailS sc ∷ ks)) m.top.at → Tail-row f
-  listed_tail f lists (is, returns) next left =
-      tail_comes (lists_of ks) (m.top.base + sc.free) refl (omega arith) returns left f next 1
+  listed_tail f lists (is, returns) left =
+      tail_comes (lists_of ks) (m.top.base + sc.free) refl (omega arith) returns left f 1
       (runs_op code m (op.TailCallList sc.free) _ is.0
       (ap (λ ls. on_list ls (λ l more. applied l (λ g us. tail_calls_listed code (line code m) g us (m.top.base + sc.free) (with_lists more m)))) lists
       ∙ ap (λ l. tail_calls code l f vs (m.top.base + sc.free) (waiting OnTop (with_lists (lists_of ks) m).top) (with_lists (lists_of ks) m)) (line_is code m at is.1)))
@@ -124,14 +123,14 @@ module _ (code : Code) (valid : IsValid code) (m : Machine) (s : State) (ks : Li
       (λ end but. Memory code h.homes h.owners m.row m.cells m.closures s.store s.closures (m.top.base + end) (m.top.base + but)) (ArgsS f at ss how env sc listed ∷ ks) vs
 
   abbrev Plain-step : Suffixes → Wanted → Bool → Type 0
-  Plain-step ss how listed = reduce (from ss how listed) ≡ meaning_calls.calls (Some at) f vs env (from ss how listed) (AfterK ss how env ∷ contexts ks)
+  Plain-step ss how listed = reduce (from ss how listed) ≡ meaning_calls.calls (Some at) f vs (from ss how listed) (AfterK ss how env ∷ contexts ks)
 
   fixed_row : (ss : Suffixes) (how : Wanted) → (wanted ss (want ks) ≡ AsResult → ⊥) → Plain-step ss how false → (h : Here-at ss how false) → Came-at ss how false h → Row-at ss how false
   fixed_row ss how ne is h (inl c) = absurd c.3
   fixed_row ss how ne is h (inr (inl c)) =
       let firm : Firm code m (from ss how false) ks = record { homes = h.homes; owners = h.owners; memory = c.4; kept = h.kept.3; below = h.below; room = h.room; beside = h.beside } in
       acts code (Sim code) m (from ss how false) _ (λ left. subst (Outcome code (Sim code) m) (sym is)
-      (fixed_call code valid m (from ss how false) ks f at ss how env sc vs firm h.kept.1 h.kept.2 refl (wanted ss (want ks)) refl ne h.kept.0 c.0 (λ k count. args_are c.0 k c.2.0 c.2.1 count) c.3 c.1 left))
+      (fixed_call code valid m (from ss how false) ks f at ss how env sc vs firm h.kept.1 h.kept.2 (wanted ss (want ks)) refl ne h.kept.0 c.0 (λ k count. args_are c.0 k c.2.0 c.2.1 count) c.3 c.1 left))
   fixed_row ss how ne is h (inr (inr c)) = absurd c.0
 
   listed_row : (ss : Suffixes) (how : Wanted) → (wanted ss (want ks) ≡ AsResult → ⊥) → Plain-step ss how true → (h : Here-at ss how true) → Came-at ss how true h → Row-at ss how true
@@ -140,7 +139,7 @@ module _ (code : Code) (valid : IsValid code) (m : Machine) (s : State) (ks : Li
   listed_row ss how ne is h (inr (inr c)) =
       let firm : Firm code m (from ss how true) ks = record { homes = h.homes; owners = h.owners; memory = c.2; kept = h.kept.2; below = h.below; room = h.room; beside = h.beside } in
       acts code (Sim code) m (from ss how true) _ (λ left. subst (Outcome code (Sim code) m) (sym is)
-      (listed_call code valid m (from ss how true) ks f at ss how env sc vs firm h.kept.0 h.kept.1 refl (wanted ss (want ks)) refl ne c.1 c.0 left))
+      (listed_call code valid m (from ss how true) ks f at ss how env sc vs firm h.kept.0 h.kept.1 (wanted ss (want ks)) refl ne c.1 c.0 left))
 
   plain_row : (ss : Suffixes) (how : Wanted) (listed : Bool) → (wanted ss (want ks) ≡ AsResult → ⊥) → Plain-step ss how listed → Here-at ss how listed → Row-at ss how listed
   plain_row ss how false ne is h = fixed_row ss how ne is h h.here.1
@@ -160,7 +159,7 @@ module _ (code : Code) (valid : IsValid code) (m : Machine) (s : State) (f : Val
       let S = from code valid m s (TailS top ∷ ks) f at env sc vs NoSuffix Result false in
       let firm : Firm code m S (TailS top ∷ ks) = record { homes = h.homes; owners = h.owners; memory = c.4; kept = h.kept.3; below = h.below; room = h.room; beside = h.beside } in
       acts code (Sim code) m S _ (λ left.
-      fixed_tail code valid m S top ks vs at env firm f c.0 h.kept.0 (λ k count. args_are code valid m s (TailS top ∷ ks) f at env sc vs c.0 k c.2.0 c.2.1 count) c.3 c.1 refl left)
+      fixed_tail code valid m S top ks vs at env firm f c.0 h.kept.0 (λ k count. args_are code valid m s (TailS top ∷ ks) f at env sc vs c.0 k c.2.0 c.2.1 count) c.3 c.1 left)
   tail_fixed top ks h (inr (inr c)) = absurd c.0
 
   tail_listed : (top : Scope) (ks : List Spot) (h : Tailed top ks true) → Came-at code valid m s (TailS top ∷ ks) f at env sc vs NoSuffix Result true h → Tail-row-at top ks true
@@ -169,7 +168,7 @@ module _ (code : Code) (valid : IsValid code) (m : Machine) (s : State) (f : Val
   tail_listed top ks h (inr (inr c)) =
       let S = from code valid m s (TailS top ∷ ks) f at env sc vs NoSuffix Result true in
       let firm : Firm code m S (TailS top ∷ ks) = record { homes = h.homes; owners = h.owners; memory = c.2; kept = h.kept.2; below = h.below; room = h.room; beside = h.beside } in
-      acts code (Sim code) m S _ (λ left. listed_tail code valid m S top ks vs at env firm f c.1 c.0 refl left)
+      acts code (Sim code) m S _ (λ left. listed_tail code valid m S top ks vs at env firm f c.1 c.0 left)
 
   tail_row : (ks : List Spot) (listed : Bool) → Suits Result ks → Stands code m (from code valid m s ks f at env sc vs NoSuffix Result listed) (ArgsS f at NoSuffix Result env sc listed ∷ ks) 0
       → Row code (Sim code) m (from code valid m s ks f at env sc vs NoSuffix Result listed) 0 (reduce (from code valid m s ks f at env sc vs NoSuffix Result listed))

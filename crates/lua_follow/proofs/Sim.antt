@@ -9,7 +9,7 @@ use Rattle.lua_steps.specs.Machine.{Code, Machine, Went, On, Off, Paused, Stuck}
 use Rattle.lua_steps.specs.Run.{run}
 use Rattle.lua_follow.specs.Spot.{Spot, contexts}
 use Rattle.lua_follow.specs.Stands.{Stands}
-use Rattle.lua_follow.specs.Follows.{Rests, NarrowRun, Meets, Pauses}
+use Rattle.lua_follow.specs.Follows.{Rests, Meets, Pauses}
 
 abbrev pub Standing : Type 1
 Standing = Machine → State → ℕ → Type 0
@@ -88,12 +88,12 @@ standing code m s k ks e h = (0, (ks, e, h))
 -- ---- whole runs
 -- how the machine follows one reduction, of each state that it stands for
 abbrev pub Rows : Code → Type 0
-Rows code = (m : Machine) (s : State) (k : ℕ) (ks : List Spot) → s.ks ≡ contexts ks → (k ≡ 0 → NarrowRun code m) → Stands code m s ks k → Row code (Sim code) m s k (reduce s)
+Rows code = (m : Machine) (s : State) (k : ℕ) (ks : List Spot) → s.ks ≡ contexts ks → Stands code m s ks k → Row code (Sim code) m s k (reduce s)
 
-near_row : (code : Code) → Rows code → (i : ℕ) (m : Machine) (s : State) (k : ℕ) → (k ≡ 0 → NarrowRun code m) → Near code i m s k → Row code (Sim code) m s k (reduce s)
-near_row code rows zero m s k narrow h = rows m s k h.0 h.1 narrow h.2
-near_row code rows (suc i) m s k narrow (inl h) = rows m s k h.0 h.1 narrow h.2
-near_row code rows (suc i) m s k narrow (inr h) = row_map code (Near code i) (Sim code) m s k (reduce s) (λ t u j g. (i, g)) h
+near_row : (code : Code) → Rows code → (i : ℕ) (m : Machine) (s : State) (k : ℕ) → Near code i m s k → Row code (Sim code) m s k (reduce s)
+near_row code rows zero m s k h = rows m s k h.0 h.1 h.2
+near_row code rows (suc i) m s k (inl h) = rows m s k h.0 h.1 h.2
+near_row code rows (suc i) m s k (inr h) = row_map code (Near code i) (Sim code) m s k (reduce s) (λ t u j g. (i, g)) h
 
-pub sim_row : (code : Code) → Rows code → (m : Machine) (s : State) (k : ℕ) → (k ≡ 0 → NarrowRun code m) → Sim code m s k → Row code (Sim code) m s k (reduce s)
-sim_row code rows m s k narrow h = near_row code rows h.0 m s k narrow h.1
+pub sim_row : (code : Code) → Rows code → (m : Machine) (s : State) (k : ℕ) → Sim code m s k → Row code (Sim code) m s k (reduce s)
+sim_row code rows m s k h = near_row code rows h.0 m s k h.1

@@ -12,7 +12,7 @@ use Rattle.lua_meaning.specs.Until.{iterate, then_on}
 use Rattle.lua_steps.specs.Machine as machine
 use Rattle.lua_steps.specs.Machine.{Code, Machine, Went, On, Off, Paused, Stuck}
 use Rattle.lua_steps.specs.Run.{run}
-use Rattle.lua_follow.specs.Follows.{Rests, NarrowRun, Stops, Meets, Pauses}
+use Rattle.lua_follow.specs.Follows.{Rests, Stops, Meets, Pauses}
 use Rattle.lua_follow.proofs.Runs.{runs_more}
 use Rattle.lua_follow.proofs.Sim.{Goes, Outcome, Row, Sim, Rows, sim_row}
 
@@ -37,7 +37,7 @@ stop_earlier : (code : Code) (n : ℕ) (m to : Machine) (x : meaning.Stop) (t : 
 stop_earlier code n m to x t runs h = record { n = n + h.n; stop = h.stop; to = h.to; runs = runs_more code n h.n m to _ runs h.runs; same = h.same; rests = h.rests }
 
 pub earlier_stop : (code : Code) (n : ℕ) (m to : Machine) (x : meaning.Stop) (t : State) → run n code m ≡ On to → Meets code to x t → Meets code m x t
-earlier_stop code n m to meaning.NoRule t runs h = record { calls = h.calls; n = n + h.n; runs = runs_more code n h.n m to _ runs h.runs }
+earlier_stop code n m to meaning.NoRule t runs h = h
 earlier_stop code n m to (meaning.Return vs) t runs h = stop_earlier code n m to (meaning.Return vs) t runs h
 earlier_stop code n m to (meaning.Raise v) t runs h = stop_earlier code n m to (meaning.Raise v) t runs h
 earlier_stop code n m to meaning.Budget t runs h = stop_earlier code n m to meaning.Budget t runs h
@@ -48,9 +48,6 @@ earlier : (code : Code) (n : ℕ) (m to : Machine) (q : Step) → run n code m �
 earlier code n m to (Next t) runs h = tt
 earlier code n m to (Halt x t) runs h = earlier_stop code n m to x t runs h
 earlier code n m to (Pause c t) runs h = record { n = n + h.n; to = h.to; runs = runs_more code n h.n m to _ runs h.runs; waits = h.waits }
-
-narrow_later : (code : Code) (n : ℕ) (m to : Machine) → run n code m ≡ On to → NarrowRun code m → NarrowRun code to
-narrow_later code n m to runs h = record { each = λ i t e. h.each (n + i) t (runs_more code n i m to _ runs e) }
 
 -- the state stops at once
 at_once : (code : Code) (m : Machine) (n : ℕ) (r q p : Step) → r ≡ p → then_on p (iterate n) ≡ p → Reaches code m p → then_on r (iterate n) ≡ q → Reaches code m q
@@ -92,7 +89,7 @@ module _ (code : Code) (rows : Rows code) where
   doomed : (n : ℕ) → Doom n
   doomed zero m end v s i k q runs heap sim lt e = subst (Reaches code m) e tt
   doomed (suc n) m end v s i k q runs heap sim lt e =
-      doomed_row n (doomed n) m end v s i k q runs heap lt e (sim_row code rows v s k (λ none. absurd (omega (arith, none))) sim)
+      doomed_row n (doomed n) m end v s i k q runs heap lt e (sim_row code rows v s k sim)
 
   raising : (n : ℕ) (m end : Machine) (t : State) (u : Value) (i : ℕ) (q : Step) → run i code m ≡ Off (machine.Raise u) end → t.focus ≡ Raises u → Rests code end t → iterate n t ≡ q → Reaches code m q
   raising zero m end t u i q runs focus rests e = subst (Reaches code m) e tt
@@ -101,23 +98,23 @@ module _ (code : Code) (rows : Rows code) where
       (record { n = i; stop = machine.Raise u; to = end; runs = runs; same = refl; rests = rests }) e
 
   abbrev Live : ℕ → Type 0
-  Live n = (m : Machine) (s : State) (k : ℕ) (q : Step) → NarrowRun code m → Sim code m s k → s.left ≡ m.left + k → iterate n s ≡ q → Reaches code m q
+  Live n = (m : Machine) (s : State) (k : ℕ) (q : Step) → Sim code m s k → s.left ≡ m.left + k → iterate n s ≡ q → Reaches code m q
 
-  live_outcome : (n : ℕ) → Live n → (m : Machine) (r q : Step) → NarrowRun code m → Outcome code (Sim code) m r → then_on r (iterate n) ≡ q → Reaches code m q
-  live_outcome n rec m (Next t) q narrow (inl h) e =
-      earlier code h.0 m h.1 q h.3 (rec h.1 t h.2 q (narrow_later code h.0 m h.1 h.3 narrow) h.5 h.4 e)
-  live_outcome n rec m (Next t) q narrow (inr (inl h)) e = doomed n m h.1 h.2 t h.0 h.3 q h.4 h.6 h.7 h.5 e
-  live_outcome n rec m (Next t) q narrow (inr (inr h)) e = raising n m h.1 t h.2 h.0 q h.3 h.4 h.5 e
-  live_outcome n rec m (Halt x t) q narrow h e = subst (Reaches code m) e h
-  live_outcome n rec m (Pause c t) q narrow h e = subst (Reaches code m) e h
+  live_outcome : (n : ℕ) → Live n → (m : Machine) (r q : Step) → Outcome code (Sim code) m r → then_on r (iterate n) ≡ q → Reaches code m q
+  live_outcome n rec m (Next t) q (inl h) e =
+      earlier code h.0 m h.1 q h.3 (rec h.1 t h.2 q h.5 h.4 e)
+  live_outcome n rec m (Next t) q (inr (inl h)) e = doomed n m h.1 h.2 t h.0 h.3 q h.4 h.6 h.7 h.5 e
+  live_outcome n rec m (Next t) q (inr (inr h)) e = raising n m h.1 t h.2 h.0 q h.3 h.4 h.5 e
+  live_outcome n rec m (Halt x t) q h e = subst (Reaches code m) e h
+  live_outcome n rec m (Pause c t) q h e = subst (Reaches code m) e h
 
-  live_row : (n : ℕ) → Live n → (m : Machine) (s : State) (k : ℕ) (q : Step) → NarrowRun code m → s.left ≡ m.left + k → iterate (suc n) s ≡ q → Row code (Sim code) m s k (reduce s) → Reaches code m q
-  live_row n rec m s k q narrow left e (inl h) =
+  live_row : (n : ℕ) → Live n → (m : Machine) (s : State) (k : ℕ) (q : Step) → s.left ≡ m.left + k → iterate (suc n) s ≡ q → Row code (Sim code) m s k (reduce s) → Reaches code m q
+  live_row n rec m s k q left e (inl h) =
       let t = h.9 (m.left + h.6) (omega (arith, left, h.7)) in
       earlier code h.0 m h.1 q h.2
-      (rec h.1 t.0 h.6 q (narrow_later code h.0 m h.1 h.2 narrow) t.3 (omega (arith, t.2, h.3)) (ap (λ r. then_on r (iterate n)) (sym t.1) ∙ e))
-  live_row n rec m s k q narrow left e (inr h) = live_outcome n rec m (reduce s) q narrow (h.1 left) e
+      (rec h.1 t.0 h.6 q t.3 (omega (arith, t.2, h.3)) (ap (λ r. then_on r (iterate n)) (sym t.1) ∙ e))
+  live_row n rec m s k q left e (inr h) = live_outcome n rec m (reduce s) q (h.1 left) e
 
   pub live : (n : ℕ) → Live n
-  live zero m s k q narrow sim left e = subst (Reaches code m) e tt
-  live (suc n) m s k q narrow sim left e = live_row n (live n) m s k q narrow left e (sim_row code rows m s k (λ z. narrow) sim)
+  live zero m s k q sim left e = subst (Reaches code m) e tt
+  live (suc n) m s k q sim left e = live_row n (live n) m s k q left e (sim_row code rows m s k sim)

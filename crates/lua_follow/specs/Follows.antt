@@ -1,24 +1,18 @@
 -- The law: compiled code stops as the source does. Both are definitions: the source's in `lua_meaning`, after the manual's section 3, and
 -- the machine's in `lua_steps`; what is said of the two together is this project's own.
-use Rattle.std.specs.Prelude.{FitsSigned, ◌≡◌, ℕ, ◌+◌, ◌-◌, List, [], length, Option, Some}
-use Rattle.std.specs.Int.{w64}
+use Rattle.std.specs.Prelude.{◌≡◌, ℕ, ◌-◌, List, [], length}
 use Rattle.lua_tree.specs.Source.{Block}
 use Rattle.lua_value.specs.declared.value.Value.{Value}
-use Rattle.lua_value.specs.declared.value.Value.TheVariants as value
 use Rattle.lua_model.specs.Heap as model
-use Rattle.lua_code.specs.declared.op.Op.{Op}
-use Rattle.lua_code.specs.declared.op.Op.TheVariants as op
 use Rattle.lua_code.specs.Valid.{IsValid}
 use Rattle.lua_meaning.specs.State as meaning
 use Rattle.lua_meaning.specs.State.{State}
 use Rattle.lua_meaning.specs.Until as meaning_until
 use Rattle.lua_meaning.specs.Until.{Until, Asks}
-use Rattle.lua_meaning.specs.Known.{Known, CallsNothingMade}
 use Rattle.lua_steps.specs.Machine as machine
-use Rattle.lua_steps.specs.Machine.{Code, Machine, On, Off, Paused, Stuck}
-use Rattle.lua_steps.specs.Moves.{slot}
+use Rattle.lua_steps.specs.Machine.{Code, Machine, Off, Paused}
 use Rattle.lua_steps.specs.Calls.{given}
-use Rattle.lua_steps.specs.Exec.{op_at, opening}
+use Rattle.lua_steps.specs.Exec.{opening}
 use Rattle.lua_steps.specs.Run.{run}
 use Rattle.lua_steps.specs.Serves.{Serves}
 use Rattle.lua_follow.specs.Memory.{Homes, Cells, ClosesAll}
@@ -47,19 +41,6 @@ RestsAt code (meaning.Return vs) m t = Rests code m t
 RestsAt code (meaning.Raise v) m t = Rests code m t
 RestsAt code x m t = m.aside.heap ≡ t.aside.heap
 
--- ---- numbers of 64 bits
-abbrev pub Narrow : Value → Type 0
-Narrow (value.Int z) = FitsSigned w64 z
-Narrow v = Unit {0}
-
-abbrev pub NarrowAt : Option Op → Machine → Type 0
-NarrowAt (Some (op.ForPrep pay base to)) m = Narrow (slot m base) × Narrow (slot m (base + 1)) × Narrow (slot m (base + 2))
-NarrowAt _ m = Unit {0}
-
--- where a numeric `for` begins, its values have 64 bits, as all values of a machine have
-pub record NarrowRun (code : Code) (m : Machine) : Type 0 where
-  pub each : (n : ℕ) (t : Machine) → run n code m ≡ On t → NarrowAt (op_at code t.top.function t.top.at) t
-
 -- ---- the law
 -- the machine comes to this stop of the state
 pub record Stops (code : Code) (m : Machine) (x : meaning.Stop) (t : State) : Type 0 where
@@ -70,15 +51,9 @@ pub record Stops (code : Code) (m : Machine) (x : meaning.Stop) (t : State) : Ty
   pub same : SameStop x stop
   pub rests : RestsAt code x to t
 
--- the source calls a function that nothing made, and the machine is stuck
-pub record Strands (code : Code) (m : Machine) (t : State) : Type 0 where
-  pub calls : CallsNothingMade t
-  pub n : ℕ
-  pub runs : run n code m ≡ Stuck
-
--- The source comes to a term without a rule by such a call alone.
+-- The source comes to no term without a rule.
 abbrev pub Meets : Code → Machine → meaning.Stop → State → Type 0
-Meets code m meaning.NoRule t = Strands code m t
+Meets code m meaning.NoRule t = ⊥
 Meets code m x t = Stops code m x t
 
 -- the machine comes to this call of the host, and waits as the state does
@@ -93,14 +68,8 @@ pub record CodeFollows : Type 0 where
   pub opens : (code : Code) (chunk : Block) (name : List ℕ) (heap : model.Heap) (budget : ℕ) → Serves code chunk → IsValid code
       → Waits code (opening name (length code - 1) heap budget) (meaning_until.opening name chunk heap budget [])
   -- given its values, it stops as the state does
-  pub stops : (code : Code) (m : Machine) (s t : State) (vs : List Value) (x : meaning.Stop) → IsValid code → Waits code m s → NarrowRun code (given m vs)
+  pub stops : (code : Code) (m : Machine) (s t : State) (vs : List Value) (x : meaning.Stop) → IsValid code → Waits code m s
       → Until (meaning_until.given s vs) x t → Meets code (given m vs) x t
   -- or asks the host as it does
-  pub asks : (code : Code) (m : Machine) (s t : State) (vs : List Value) (c : meaning.NativeCall) → IsValid code → Waits code m s → NarrowRun code (given m vs)
+  pub asks : (code : Code) (m : Machine) (s t : State) (vs : List Value) (c : meaning.NativeCall) → IsValid code → Waits code m s
       → Asks (meaning_until.given s vs) c t → Pauses code (given m vs) c t
-
--- Where all functions of a state were made, and those it is given, the source comes to no term without a rule.
-abbrev pub KnownHasRules : Type 0
-KnownHasRules =
-    (code : Code) (m : Machine) (s t : State) (vs : List Value) → IsValid code → Waits code m s → NarrowRun code (given m vs) → Known (meaning_until.given s vs)
-    → Until (meaning_until.given s vs) meaning.NoRule t → ⊥

@@ -1,6 +1,6 @@
 -- What a frame keeps for the contexts that wait: the values that they hold, and what their terms see (manual, section 3.5). It is this
 -- project's own.
-use Rattle.std.specs.Prelude.{◌≡◌, ℕ, zero, suc, ◌+ℤ◌, ◌+◌, ◌-◌, ◌<◌, ◌≤◌, true, false, not, List, [], ◌∷◌, length, Some, None, min, ℤ}
+use Rattle.std.specs.Prelude.{◌≡◌, ℕ, ◌+◌, ◌-◌, ◌<◌, ◌≤◌, true, false, not, List, [], ◌∷◌, length, Some, None, min}
 use Rattle.lua_tree.specs.Source.{Text}
 use Rattle.lua_value.specs.declared.value.Value.{Value}
 use Rattle.lua_value.specs.declared.value.Value.TheVariants as value
@@ -10,7 +10,6 @@ use Rattle.lua_meaning.specs.State.{Env, Values, Result, Wanted}
 use Rattle.lua_steps.specs.Machine.{Code}
 use Rattle.lua_steps.specs.Moves.{values_from}
 use Rattle.lua_steps.specs.Loops.{counted}
-use Rattle.lua_model.specs.Integer as lua
 use Rattle.lua_steps.specs.declared.scope.Place.TheVariants.{InSlot}
 use Rattle.lua_steps.specs.Scope.{Scope, past, place_of}
 use Rattle.lua_steps.specs.Stand.{IsDeclares, WhereOne, Into, Anywhere, Decided, Shown, Reg, Imm, Not, Holds, Fails, register, Want, Count, AsList}
@@ -72,7 +71,7 @@ floor (WhileLoopS e body rest env sc c ∷ ks) = sc.free
 floor (RepeatLoopS body e rest env sc m s ∷ ks) = sc.free
 floor (NumericLoopS n at step x body rest env sc pay p ∷ ks) = sc.free + 3
 floor (GenericLoopS f state control xs body line rest env sc r pay s l ∷ ks) = sc.free + 3
-floor (CallS line env ∷ ks) = 0
+floor (CallS line ∷ ks) = 0
 floor (_ ∷ ks) = floor ks
 
 -- the first cell of the frame that no local has
@@ -95,7 +94,7 @@ cells_in (WhileLoopS e body rest env sc c ∷ ks) = sc.cells
 cells_in (RepeatLoopS body e rest env sc m s ∷ ks) = sc.cells
 cells_in (NumericLoopS n at step x body rest env sc pay p ∷ ks) = sc.cells
 cells_in (GenericLoopS f state control xs body line rest env sc r pay s l ∷ ks) = sc.cells
-cells_in (CallS line env ∷ ks) = 0
+cells_in (CallS line ∷ ks) = 0
 cells_in (_ ∷ ks) = cells_in ks
 
 -- a term's scope, within the slots and the cells of the contexts below it
@@ -118,7 +117,7 @@ Round (WhileLoopS e body rest env sc c ∷ ks) = Round ks
 Round (RepeatLoopS body e rest env sc m s ∷ ks) = Round ks
 Round (NumericLoopS n at step x body rest env sc pay p ∷ ks) = Round ks
 Round (GenericLoopS f state control xs body line rest env sc r pay s l ∷ ks) = Round ks
-Round (CallS line env ∷ ks) = Unit {0}
+Round (CallS line ∷ ks) = Unit {0}
 Round (_ ∷ ks) = ⊥
 
 -- where the results of a call that comes last in a term go: they are values, or the results of the body
@@ -174,9 +173,8 @@ Returns sc (OnList d) = d ≡ sc.free
 Returns sc _ = ⊥
 
 -- n turns are to come after this one, each of 64 bits
-abbrev pub Counted : ℕ → ℤ → ℤ → Type 0
-Counted zero at step = Unit {0}
-Counted (suc n) at step = (suc n < 18446744073709551616) × (lua.add at step ≡ at +ℤ step) × Counted n (at +ℤ step) step
+abbrev pub Counted : ℕ → Type 0
+Counted n = n < 18446744073709551616
 
 abbrev pub Kept : Code → Homes → Owners → View → List Value → List Spot → Type 0
 Kept code homes owners fr row [] = Unit {0}
@@ -230,7 +228,7 @@ Kept code homes owners fr row (RepeatLoopS body e rest env sc m s ∷ ks) =
     × IsBlock code fr.function sc body m s (Exits code fr.function (RepeatLoopS body e rest env sc m s ∷ ks)) (Ends code fr.function (RepeatLoopS body e rest env sc m s ∷ ks))
     × Kept code homes owners fr row ks
 Kept code homes owners fr row (NumericLoopS n at step x body rest env sc pay p ∷ ks) =
-    Inner homes owners fr sc env (free ks) (cells_in ks) × Round ks × Counted n at step
+    Inner homes owners fr sc env (free ks) (cells_in ks) × Round ks × Counted n
     × Keeps owners fr row sc.free (counted n) × Keeps owners fr row (sc.free + 1) (value.Int at) × Keeps owners fr row (sc.free + 2) (value.Int step)
     × IsDeclares code fr.function (past 3 sc) (x ∷ []) (p + 1) (λ inner s.
     IsBlock code fr.function inner body pay s (Exits code fr.function (NumericLoopS n at step x body rest env sc pay p ∷ ks)) (Ends code fr.function (NumericLoopS n at step x body rest env sc pay p ∷ ks)))
@@ -240,4 +238,4 @@ Kept code homes owners fr row (GenericLoopS f state control xs body line rest en
     × Keeps owners fr row sc.free f × Keeps owners fr row (sc.free + 1) state × Keeps owners fr row (sc.free + 2) control
     × Iterates code fr.function sc xs body line (λ y. IsBlock code fr.function sc rest 0 y (Exits code fr.function ks) (Ends code fr.function ks)) l r pay s
     × Kept code homes owners fr row ks
-Kept code homes owners fr row (CallS line env ∷ ks) = Unit {0}
+Kept code homes owners fr row (CallS line ∷ ks) = Unit {0}

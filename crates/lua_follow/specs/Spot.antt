@@ -78,7 +78,7 @@ pub data Spot : Type 0 where
   -- the loop begins at p, and a turn pays
   NumericLoopS : (n : ℕ) (at step : ℤ) (x : Text) (body rest : Block) (env : Env) (sc : Scope) (pay p : ℕ) → Spot
   GenericLoopS : (f state control : Value) (xs : List Text) (body : Block) (line : ℕ) (rest : Block) (env : Env) (sc : Scope) (r pay s l : ℕ) → Spot
-  CallS : (line : Option ℕ) (env : Env) → Spot
+  CallS : (line : Option ℕ) → Spot
 
 abbrev pub to_come : Stage → Exps
 to_come (First limit) = MoreExps limit NoExp
@@ -122,7 +122,7 @@ context (WhileLoopS e body rest env sc c) = WhileLoopK e body rest env
 context (RepeatLoopS body e rest env sc m s) = RepeatLoopK body e rest env
 context (NumericLoopS n at step x body rest env sc pay p) = NumericLoopK n at step x body rest env
 context (GenericLoopS f state control xs body line rest env sc r pay s l) = GenericLoopK f state control xs body line rest env
-context (CallS line env) = CallK line env
+context (CallS line) = CallK line
 
 abbrev pub contexts : List Spot → List Context
 contexts [] = []
@@ -179,7 +179,7 @@ free (WhileLoopS e body rest env sc c ∷ ks) = sc.free
 free (RepeatLoopS body e rest env sc m s ∷ ks) = sc.free
 free (NumericLoopS n at step x body rest env sc pay p ∷ ks) = sc.free + 3
 free (GenericLoopS f state control xs body line rest env sc r pay s l ∷ ks) = sc.free + 3
-free (CallS line env ∷ ks) = 0
+free (CallS line ∷ ks) = 0
 
 -- where the value goes that is worked on
 abbrev pub target : List Spot → Target
@@ -240,7 +240,7 @@ list_in _ vs ls = ls
 
 abbrev pub lists_of : List Spot → List (List Value)
 lists_of [] = []
-lists_of (CallS line env ∷ ks) = []
+lists_of (CallS line ∷ ks) = []
 lists_of (BeginS f ∷ ks) = (f ∷ []) ∷ []
 lists_of (ItemS e es env us sc form ∷ ks) = list_in form (before ks ++ us) (lists_of ks)
 lists_of (SpreadS us form ∷ ks) = list_in form (before ks ++ us) (lists_of ks)

@@ -54,8 +54,8 @@ pub record Parked (code : Code) (homes : Homes) (owners : Owners) (row : List Va
 abbrev pub Below : Code → Homes → Owners → List Value → ℕ → List Spot → List Frame → Type 0
 Below code homes owners row n [] [] = Unit {0}
 Below code homes owners row n [] (fr ∷ frs) = ⊥
-Below code homes owners row n (CallS line env ∷ ks) [] = ⊥
-Below code homes owners row n (CallS line env ∷ ks) (fr ∷ frs) =
+Below code homes owners row n (CallS line ∷ ks) [] = ⊥
+Below code homes owners row n (CallS line ∷ ks) (fr ∷ frs) =
     (fr.base + free ks ≤ n) × Parked code homes owners row fr ks × Below code homes owners row fr.base ks frs
 Below code homes owners row n (_ ∷ ks) frs = Below code homes owners row n ks frs
 

@@ -151,7 +151,7 @@ abbrev mutual
   Ends code f (NumericLoopS n at step x body rest env sc pay p ∷ ks) end z =
       Leads code f z (λ l. At code f l (op.ForLoop (suc pay) sc.free (p + 1)) × Leads code f (l + 1) (λ y. IsBlock code f sc rest 0 y (Exits code f ks) (Ends code f ks)))
   Ends code f (GenericLoopS g state control xs body line rest env sc r pay s l ∷ ks) end z = Leads code f z (λ y. y ≡ l)
-  Ends code f (CallS line env ∷ ks) end z = Leads code f z (λ y. (i : ℕ) × At code f y (op.Return i 0))
+  Ends code f (CallS line ∷ ks) end z = Leads code f z (λ y. (i : ℕ) × At code f y (op.Return i 0))
   Ends code f _ end z = ⊥
 
   -- a break leaves the innermost loop

@@ -1,7 +1,5 @@
 -- A machine comes to one stop alone, and so to that of the states as which it waited.
-use Rattle.std.proofs.Common.{◌≡◌, ℕ, zero, suc, ◌≤◌, ◌⊎◌, inl, inr, Bool, true, false, List, refl, sym, ap, ap₂, ◌∙◌, subst, arith}
-use Rattle.std.specs.Prelude.{ltb}
-use Rattle.std.proofs.lemmas.Bool.{ltb-false, ltb-true}
+use Rattle.std.proofs.Common.{◌≡◌, ℕ, zero, suc, ◌⊎◌, inl, inr, List, sym, ap, ap₂, ◌∙◌, subst}
 use Rattle.lua_value.specs.declared.value.Value.{Value}
 use Rattle.lua_code.specs.Valid.{IsValid}
 use Rattle.lua_meaning.specs.State as meaning
@@ -9,15 +7,13 @@ use Rattle.lua_meaning.specs.State.{State}
 use Rattle.lua_meaning.specs.Until as until
 use Rattle.lua_meaning.specs.Until.{Until, Asks}
 use Rattle.lua_meaning.specs.Laws.{StepIsDetermined}
-use Rattle.lua_meaning.specs.Known.{Known}
-use Rattle.lua_meaning.proofs.KnownRuns.{known_stays}
 use Rattle.lua_steps.specs.Machine as steps
 use Rattle.lua_steps.specs.Machine.{Code, Machine, Went, On, Off, Paused, Stuck}
 use Rattle.lua_steps.specs.Calls.{given}
-use Rattle.lua_steps.specs.Exec.{exec, op_at}
+use Rattle.lua_steps.specs.Exec.{exec}
 use Rattle.lua_steps.specs.Run.{then_on, run}
 use Rattle.lua_follow.specs.Stands.{Waits}
-use Rattle.lua_follow.specs.Follows.{SameStop, RestsAt, NarrowAt, NarrowRun, Meets, CodeFollows}
+use Rattle.lua_follow.specs.Follows.{SameStop, RestsAt, Meets, CodeFollows}
 use Rattle.lua_machine.specs.declared.stop.Stop.{Stop}
 use Rattle.lua_machine.specs.declared.stop.Stop.TheVariants as stop
 use Rattle.lua_machine.specs.declared.stop.GoError.{GoError}
@@ -25,7 +21,7 @@ use Rattle.lua_machine.specs.declared.stop.GoError.TheVariants as error
 use Rattle.lua_machine.specs.Runs.{Runs, StuckIf}
 use Rattle.lua_machine.specs.declared.stop.NativeCall.{NativeCall}
 use Rattle.lua_machine.specs.Views.{call_of, stops}
-use Rattle.lua_machine.specs.Follows.{StopsAs, HasNoRule, Follows, NoRuleIf, StopsKnown, StaysKnown, UnknownIf}
+use Rattle.lua_machine.specs.Follows.{StopsAs, Follows, UnwaitedIf}
 
 -- ---- ends of runs
 abbrev IsEnd : Went → Type 0
@@ -45,25 +41,6 @@ one_end : (n k : ℕ) (code : Code) (m : Machine) (w v : Went) → IsEnd w → I
 one_end zero k code m w v a b e f = absurd (subst IsEnd (sym e) a)
 one_end (suc n) zero code m w v a b e f = absurd (subst IsEnd (sym f) b)
 one_end (suc n) (suc k) code m w v a b e f = one_by n k code (exec code m) w v (λ u g h. one_end n k code u w v a b g h) e f
-
-none_by : (n k : ℕ) (code : Code) (x w : Went) (t : Machine) → ((u : Machine) → run n code u ≡ w → run k code u ≡ On t → ⊥) → then_on x (run n code) ≡ w → then_on x (run k code) ≡ On t → ⊥
-none_by n k code (On u) w t rest e f = rest u e f
-none_by n k code (Off x u) w t rest e f = cc
-none_by n k code (Paused c u) w t rest e f = cc
-none_by n k code Stuck w t rest e f = cc
-
--- and none goes on after it
-no_more : (n k : ℕ) (code : Code) (m t : Machine) (w : Went) → n ≤ k → IsEnd w → run n code m ≡ w → run k code m ≡ On t → ⊥
-no_more zero k code m t w le a e f = subst IsEnd (sym e) a
-no_more (suc n) zero code m t w le a e f = omega (arith, le)
-no_more (suc n) (suc k) code m t w le a e f = none_by n k code (exec code m) w t (λ u g h. no_more n k code u t w (omega (arith, le)) a g h) e f
-
-narrow : (code : Code) (m : Machine) (w : Went) → IsEnd w → Runs code m w → NarrowRun code m
-narrow code m w a r = record { each = λ n t e. (go n t e (ltb n r.count) refl) }
-  where
-    go : (n : ℕ) (t : Machine) → run n code m ≡ On t → (b : Bool) → ltb n r.count ≡ b → NarrowAt (op_at code t.top.function t.top.at) t
-    go n t e true is = r.narrow n t (ltb-true _ _ is) e
-    go n t e false is = absurd (no_more r.count n code m t w (ltb-false _ _ is) a r.is e)
 
 stop_ends : (x : Stop) (m : Machine) → IsEnd (stops x m)
 stop_ends (stop.Native c) m = tt
@@ -146,90 +123,45 @@ module _ (code : Code) (s : State) where
   at_stop x meaning.NoRule z to end t e same rests h = absurd same
 
 module _ (law : CodeFollows) (determined : StepIsDetermined) (code : Code) (valid : IsValid code) (m : Machine) (vs : List Value) where
-  met : (x : Stop) (to : Machine) (s : State) (y : meaning.Stop) (t : State) → Runs code (given m vs) (stops x to) → Until (until.given s vs) y t → Meets code (given m vs) y t
-      → StopsAs code (until.given s vs) x to ⊎ HasNoRule (until.given s vs)
-  met x to s meaning.NoRule t r h g = inr (t, h)
+  met : (x : Stop) (to : Machine) (s : State) (y : meaning.Stop) (t : State) → Runs code (given m vs) (stops x to) → Until (until.given s vs) y t → Meets code (given m vs) y t → StopsAs code (until.given s vs) x to
+  met x to s meaning.NoRule t r h g = absurd g
   met x to s (meaning.Return us) t r h g =
-      inl (at_stop code (until.given s vs) x _ g.stop to g.to t (one_end r.count g.n code (given m vs) _ _ (stop_ends x to) tt r.is g.runs) g.same g.rests h)
+      at_stop code (until.given s vs) x _ g.stop to g.to t (one_end r.count g.n code (given m vs) _ _ (stop_ends x to) tt r.is g.runs) g.same g.rests h
   met x to s (meaning.Raise u) t r h g =
-      inl (at_stop code (until.given s vs) x _ g.stop to g.to t (one_end r.count g.n code (given m vs) _ _ (stop_ends x to) tt r.is g.runs) g.same g.rests h)
+      at_stop code (until.given s vs) x _ g.stop to g.to t (one_end r.count g.n code (given m vs) _ _ (stop_ends x to) tt r.is g.runs) g.same g.rests h
   met x to s meaning.Budget t r h g =
-      inl (at_stop code (until.given s vs) x _ g.stop to g.to t (one_end r.count g.n code (given m vs) _ _ (stop_ends x to) tt r.is g.runs) g.same g.rests h)
+      at_stop code (until.given s vs) x _ g.stop to g.to t (one_end r.count g.n code (given m vs) _ _ (stop_ends x to) tt r.is g.runs) g.same g.rests h
   met x to s meaning.HeapFull t r h g =
-      inl (at_stop code (until.given s vs) x _ g.stop to g.to t (one_end r.count g.n code (given m vs) _ _ (stop_ends x to) tt r.is g.runs) g.same g.rests h)
+      at_stop code (until.given s vs) x _ g.stop to g.to t (one_end r.count g.n code (given m vs) _ _ (stop_ends x to) tt r.is g.runs) g.same g.rests h
 
-  either : (x : Stop) (to : Machine) → Runs code (given m vs) (stops x to) → (s : State) → Waits code m s → StopsAs code (until.given s vs) x to ⊎ HasNoRule (until.given s vs)
-  either x to r s w = go (determined.ends (until.given s vs))
-    where
-      fits : NarrowRun code (given m vs)
-      fits = narrow code (given m vs) (stops x to) (stop_ends x to) r
+  abbrev Ended : State → Type 0
+  Ended s = ((y : meaning.Stop) × (t : State) × Until s y t) ⊎ ((c : meaning.NativeCall) × (t : State) × Asks s c t)
 
-      go : ((y : meaning.Stop) × (t : State) × Until (until.given s vs) y t) ⊎ ((c : meaning.NativeCall) × (t : State) × Asks (until.given s vs) c t) → StopsAs code (until.given s vs) x to ⊎ HasNoRule (until.given s vs)
-      go (inl h) = met x to s h.0 h.1 r h.2 (law.stops code m s h.1 vs h.0 valid w fits h.2)
-      go (inr h) =
-          let g = law.asks code m s h.1 vs h.0 valid w fits h.2 in
-          inl (asked code (until.given s vs) x h.0 to g.to h.1 (one_end r.count g.n code (given m vs) _ _ (stop_ends x to) tt r.is g.runs) g.waits h.2)
-
-  -- a machine that is stuck
-  lost : (y : meaning.Stop) (t : State) (s : State) → Runs code (given m vs) Stuck → Until (until.given s vs) y t → Meets code (given m vs) y t → HasNoRule (until.given s vs)
-  lost meaning.NoRule t s r h g = (t, h)
-  lost (meaning.Return us) t s r h g = (let e : Stuck ≡ Off g.stop g.to = one_end r.count g.n code (given m vs) _ _ tt tt r.is g.runs in absurd (cc))
-  lost (meaning.Raise u) t s r h g = (let e : Stuck ≡ Off g.stop g.to = one_end r.count g.n code (given m vs) _ _ tt tt r.is g.runs in absurd (cc))
-  lost meaning.Budget t s r h g = (let e : Stuck ≡ Off g.stop g.to = one_end r.count g.n code (given m vs) _ _ tt tt r.is g.runs in absurd (cc))
-  lost meaning.HeapFull t s r h g = (let e : Stuck ≡ Off g.stop g.to = one_end r.count g.n code (given m vs) _ _ tt tt r.is g.runs in absurd (cc))
-
-  pub stuck_has_no_rule : Runs code (given m vs) Stuck → (s : State) → Waits code m s → HasNoRule (until.given s vs)
-  stuck_has_no_rule r s w = go (determined.ends (until.given s vs))
-    where
-      fits : NarrowRun code (given m vs)
-      fits = narrow code (given m vs) Stuck tt r
-
-      go : ((y : meaning.Stop) × (t : State) × Until (until.given s vs) y t) ⊎ ((c : meaning.NativeCall) × (t : State) × Asks (until.given s vs) c t) → HasNoRule (until.given s vs)
-      go (inl h) = lost h.0 h.1 s r h.2 (law.stops code m s h.1 vs h.0 valid w fits h.2)
-      go (inr h) =
-          let g = law.asks code m s h.1 vs h.0 valid w fits h.2 in
-          let e : Stuck ≡ Paused (record { called = h.0.called; args = h.0.args }) g.to = one_end r.count g.n code (given m vs) _ _ tt tt r.is g.runs in
-          absurd (cc)
-
-  pub no_rule_if : (e : GoError) → StuckIf e code (given m vs) → NoRuleIf e code m vs
-  no_rule_if error.Stuck r = stuck_has_no_rule r
-  no_rule_if error.Memory r = tt
-  no_rule_if error.Spent r = tt
-
-  -- ---- no term is without a rule
-  stop_is_none : (x : Stop) (to : Machine) → stops x to ≡ Stuck → ⊥
-  stop_is_none (stop.Native c) to e = cc
-  stop_is_none (stop.Return us) to e = cc
-  stop_is_none (stop.Raise v) to e = cc
-  stop_is_none stop.Budget to e = cc
-  stop_is_none stop.HeapFull to e = cc
-
-  ruled_by : (x : Stop) (to : Machine) (s : State) → Runs code (given m vs) (stops x to) → Waits code m s → StopsAs code (until.given s vs) x to ⊎ HasNoRule (until.given s vs) → StopsAs code (until.given s vs) x to
-  ruled_by x to s r w (inl h) = h
-  ruled_by x to s r w (inr h) =
-      let g = law.stops code m s h.0 vs meaning.NoRule valid w (narrow code (given m vs) (stops x to) (stop_ends x to) r) h.1 in
-      absurd (stop_is_none x to (one_end r.count g.n code (given m vs) _ _ (stop_ends x to) tt r.is g.runs))
+  follows_to : (x : Stop) (to : Machine) (s : State) → Runs code (given m vs) (stops x to) → Waits code m s → Ended (until.given s vs) → StopsAs code (until.given s vs) x to
+  follows_to x to s r w (inl h) = met x to s h.0 h.1 r h.2 (law.stops code m s h.1 vs h.0 valid w h.2)
+  follows_to x to s r w (inr h) =
+      let g = law.asks code m s h.1 vs h.0 valid w h.2 in
+      asked code (until.given s vs) x h.0 to g.to h.1 (one_end r.count g.n code (given m vs) _ _ (stop_ends x to) tt r.is g.runs) g.waits h.2
 
   pub follows : (x : Stop) (to : Machine) → Runs code (given m vs) (stops x to) → Follows code m vs x to
-  follows x to r s w = ruled_by x to s r w (either x to r s w)
+  follows x to r s w = follows_to x to s r w (determined.ends (until.given s vs))
 
-  known_at : (x : Stop) (to : Machine) (s : State) → Known s → StopsAs code s x to → StopsKnown code s x to
-  known_at (stop.Native c) to s k (t, h, w) = let g = known_stays.asks s t (record { called = c.called; args = c.args }) k h in (t, h, w, g.0, g.1.1)
-  known_at (stop.Return us) to s k (t, h, w) = let g = known_stays.until s t (meaning.Return us) k h in (t, h, w, g.0, g.1)
-  known_at (stop.Raise v) to s k (t, h, w) = let g = known_stays.until s t (meaning.Raise v) k h in (t, h, w, g.0, g.1)
-  known_at stop.Budget to s k (t, h, w) = let g = known_stays.until s t meaning.Budget k h in (t, h, w, g.0)
-  known_at stop.HeapFull to s k (t, h, w) = let g = known_stays.until s t meaning.HeapFull k h in (t, h, w, g.0)
+  -- a machine that is stuck
+  lost : (y : meaning.Stop) (t : State) → Runs code (given m vs) Stuck → Meets code (given m vs) y t → ⊥
+  lost meaning.NoRule t r g = g
+  lost (meaning.Return us) t r g = (let e : Stuck ≡ Off g.stop g.to = one_end r.count g.n code (given m vs) _ _ tt tt r.is g.runs in cc)
+  lost (meaning.Raise u) t r g = (let e : Stuck ≡ Off g.stop g.to = one_end r.count g.n code (given m vs) _ _ tt tt r.is g.runs in cc)
+  lost meaning.Budget t r g = (let e : Stuck ≡ Off g.stop g.to = one_end r.count g.n code (given m vs) _ _ tt tt r.is g.runs in cc)
+  lost meaning.HeapFull t r g = (let e : Stuck ≡ Off g.stop g.to = one_end r.count g.n code (given m vs) _ _ tt tt r.is g.runs in cc)
 
-  pub stays_known : (x : Stop) (to : Machine) → Runs code (given m vs) (stops x to) → StaysKnown code m vs x to
-  stays_known x to r s w k = known_at x to (until.given s vs) k (follows x to r s w)
+  unwaited_at : (s : State) → Runs code (given m vs) Stuck → Waits code m s → Ended (until.given s vs) → ⊥
+  unwaited_at s r w (inl h) = lost h.0 h.1 r (law.stops code m s h.1 vs h.0 valid w h.2)
+  unwaited_at s r w (inr h) =
+      let g = law.asks code m s h.1 vs h.0 valid w h.2 in
+      let e : Stuck ≡ Paused (record { called = h.0.called; args = h.0.args }) g.to = one_end r.count g.n code (given m vs) _ _ tt tt r.is g.runs in
+      cc
 
-  unknown : Runs code (given m vs) Stuck → (s : State) → Waits code m s → Known (until.given s vs) → ⊥
-  unknown r s w k =
-      let h = stuck_has_no_rule r s w in
-      let g = law.stops code m s h.0 vs meaning.NoRule valid w (narrow code (given m vs) Stuck tt r) h.1 in
-      known_stays.calls h.0 (known_stays.until (until.given s vs) h.0 meaning.NoRule k h.1).0 g.calls
-
-  pub unknown_if : (e : GoError) → StuckIf e code (given m vs) → UnknownIf e code m vs
-  unknown_if error.Stuck r = unknown r
-  unknown_if error.Memory r = tt
-  unknown_if error.Spent r = tt
+  pub unwaited_if : (e : GoError) → StuckIf e code (given m vs) → UnwaitedIf e code m
+  unwaited_if error.Stuck r = λ s w. unwaited_at s r w (determined.ends (until.given s vs))
+  unwaited_if error.Memory r = tt
+  unwaited_if error.Spent r = tt

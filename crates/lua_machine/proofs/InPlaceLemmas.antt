@@ -148,11 +148,11 @@ moved_all row rest all t p i le e =
     ap (λ (x : ℕ). written row t (adjusted x rest)) (sym none) ∙ e
 
 -- ---- a closure is entered
-pub not_entered : (code : Code) (m : Machine) (k : ℕ) (c : Closure) (f : Routine) (vs : List Value) (b : ℕ) (below : List Frame) → slice_get m.closures k ≡ Some c → slice_get code c.function ≡ Some f → m.left < f.shape.pay
-    → enter code (slice_get m.closures k) vs b below m ≡ Off Budget m
-not_entered code m k c f vs b below is_closure is_routine lt =
+pub not_entered : (code : Code) (m : Machine) (k : ℕ) (line : Option ℕ) (g : Value) (c : Closure) (f : Routine) (vs : List Value) (b : ℕ) (below : List Frame) → slice_get m.closures k ≡ Some c → slice_get code c.function ≡ Some f → m.left < f.shape.pay
+    → enter code (slice_get m.closures k) line g vs b below m ≡ Off Budget m
+not_entered code m k line g c f vs b below is_closure is_routine lt =
     let entered : Machine → Went = λ (t : Machine). On (record t { top = opened c f vs b; below = below; row = written (grown (b + room f.shape) t.row) b (adjusted f.shape.params vs) }) in
-    ap (λ (x : Option Closure). enter code x vs b below m) is_closure
+    ap (λ (x : Option Closure). enter code x line g vs b below m) is_closure
     ∙ ap (λ (x : Option Routine). begins x c vs b below m) is_routine
     ∙ ap (λ (x : Bool). if x then Off Budget m else entered (record m { left = m.left - f.shape.pay })) (lt-ltb m.left f.shape.pay lt)
 
@@ -166,13 +166,13 @@ begun m shape s vs b pay =
       left = m.left - pay;
     }
 
-pub entered : (code : Code) (m after : Machine) (k : ℕ) (c : Closure) (f : Routine) (shape : Shape) (s : Stacked) (vs : List Value) (b pay : ℕ) (below : List Frame)
+pub entered : (code : Code) (m after : Machine) (k : ℕ) (line : Option ℕ) (g : Value) (c : Closure) (f : Routine) (shape : Shape) (s : Stacked) (vs : List Value) (b pay : ℕ) (below : List Frame)
     → slice_get m.closures k ≡ Some c → slice_get code c.function ≡ Some f → shape ≡ f.shape → pay ≡ f.shape.pay → pay ≤ m.left → s ≡ record { top = plain c shape.cells b; below = below } → after ≡ begun m shape s vs b pay
-    → enter code (slice_get m.closures k) vs b below m ≡ On after
-entered code m after k c f shape s vs b pay below is_closure is_routine is_shape is_pay le is_stack is_after =
+    → enter code (slice_get m.closures k) line g vs b below m ≡ On after
+entered code m after k line g c f shape s vs b pay below is_closure is_routine is_shape is_pay le is_stack is_after =
     let going : Machine → Went = λ (t : Machine). On (record t { top = opened c f vs b; below = below; row = written (grown (b + room f.shape) t.row) b (adjusted f.shape.params vs) }) in
     let paid : ltb m.left f.shape.pay ≡ false = le-ltb m.left f.shape.pay (omega arith) in
-    ap (λ (x : Option Closure). enter code x vs b below m) is_closure
+    ap (λ (x : Option Closure). enter code x line g vs b below m) is_closure
     ∙ ap (λ (x : Option Routine). begins x c vs b below m) is_routine
     ∙ ap (λ (x : Bool). if x then Off Budget m else going (record m { left = m.left - f.shape.pay })) paid
     ∙ ap (λ (x : ℕ). going (record m { left = m.left - x })) (sym is_pay)

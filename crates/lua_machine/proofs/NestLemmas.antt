@@ -124,7 +124,6 @@ nests_call code cs calls d row base args results left pace e w lt begins not_yet
         ∙ ap (λ (f : Frame). On (record x { top = f; below = waiting (InSlots base results) x.top ∷ below; left = left })) (entered_by cs e not_yet)
         ∙ ap (λ (f : Frame). On (record x { top = record (frame_of cs e) { at = 0 }; below = f ∷ below; left = left })) waits
         ∙ ap (λ (t : Stacked). On (at_work t row cells (record { at = 0; left = left }) m)) (sym (nested_more cs d calls e w s lt));
-    narrow = λ m. tt;
   };
 }
 
@@ -141,7 +140,6 @@ nests_first code cs s t calls row base args results left pace e lt begins not_ye
       ∙ ap (λ (f : Frame). On (record x { top = f; below = w ∷ s.below; left = left })) (entered_by cs e not_yet)
       ∙ ap (λ (t : Stacked). On (record x { top = record (frame_of cs e) { at = 0 }; below = t.top ∷ t.below; left = left })) (sym is_waiting)
       ∙ ap (λ (c : CallInfo). On (record x { top = record (frame_of cs c) { at = 0 }; below = t.top ∷ t.below; left = left })) (sym first);
-  narrow = λ m. tt;
 }
 
 -- ---- returns
@@ -163,7 +161,6 @@ nests_return code cs calls d e base from count to row after pace above begins ca
         ∙ ap (λ (b : Bool). On (received (if b then InSlots c.to c.count else OnTop) vs waited)) called
         ∙ ap (λ (n : ℕ). On (record waited { row = written row n (adjusted c.count vs) })) (sym is_to)
         ∙ ap (λ (r : List Value). On (record waited { row = r })) (sym handed);
-    narrow = λ m. tt;
   };
 }
 

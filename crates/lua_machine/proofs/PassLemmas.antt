@@ -46,7 +46,7 @@ passes_call code m base args results k place c f s is_func is_closure is_routine
     let stand : vs ≡ values_from m.row place args = ap (λ (x : ℕ). values_from m.row x args) (sym is_place) in
     let entered : Machine → Went = λ (t : Machine). On (record t { top = opened c f vs b; below = w ∷ m.below; row = written (grown (b + room f.shape) t.row) b (adjusted n vs) }) in
     ap (λ (x : Value). calls code at x vs b w m) is_func
-    ∙ ap (λ (x : Option Closure). enter code x vs b (w ∷ m.below) m) is_closure
+    ∙ ap (λ (x : Option Closure). enter code x at (value.Func k) vs b (w ∷ m.below) m) is_closure
     ∙ ap (λ (x : Option Routine). begins x c vs b (w ∷ m.below) m) is_routine
     ∙ ap (λ (x : Bool). if x then Off Budget m else entered (record m { left = left })) fits.paid
     ∙ ap (λ (x : ℕ). On (record m { left = left; top = opened c f vs x; below = w ∷ m.below; row = written (grown (x + room f.shape) m.row) x (adjusted n vs) })) same

@@ -13,7 +13,6 @@ use Rattle.lua_steps.specs.Machine.{Code, Machine, On}
 use Rattle.lua_steps.specs.Moves.{written}
 use Rattle.lua_steps.specs.Exec.{ops_of, constants_of, op_at, perform_at, exec, opening}
 use Rattle.lua_steps.specs.Measure.{total, rank, MeasureFalls}
-use Rattle.lua_follow.specs.Follows.{NarrowAt}
 use Rattle.lua_machine.specs.declared.pace.Pace.{Pace}
 use Rattle.lua_machine.specs.declared.pace.Pass.{Pass}
 use Rattle.lua_machine.specs.declared.pace.Pass.TheVariants as pass
@@ -220,7 +219,7 @@ stays_more next (Some p) row after h start end is e = (none_at next (after ≡ r
 
 -- ---- an operation that touches no cell
 pub lifts : (code : Code) (f : ℕ) (o : Op) (own ups : List ℕ) (row after cells : List Value) (pace p : Pace) → OnSlots o row pace after p → Quick code f o own ups row cells pace after cells p
-lifts code f o own ups row after cells pace p h = record { is = λ before m. h.is code (around f own ups before m) cells; narrow = h.narrow }
+lifts code f o own ups row after cells pace p h = record { is = λ before m. h.is code (around f own ups before m) cells }
 
 pub lifts_kept : (code : Code) (f : ℕ) (o : Op) (own ups : List ℕ) (row after cells : List Value) (pace then_at : Pace) (next : Option Pace) (left : Option Pass)
     → IfNone left (next ≡ Some then_at) → IfSome next (λ p. OnSlots o row pace after p) → IfNone left (Quick code f o own ups row cells pace after cells then_at)
@@ -245,7 +244,7 @@ ran_more code f own ups first held row cells after later start pace then_at o ra
   is = λ before m.
       let g = around f own ups before m in
       let here = in_hand g row cells pace in
-      runs_more code (in_hand g first held start) here _ (subst (λ x. NarrowAt x here) (sym is) (quick.narrow here)) (ran.is before m)
+      runs_more code (in_hand g first held start) here _ (ran.is before m)
       (stepped code f own ups row cells after later pace then_at o is quick before m);
 }
 

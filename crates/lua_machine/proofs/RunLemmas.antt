@@ -1,13 +1,10 @@
 -- A run goes on by one operation.
-use Rattle.std.proofs.Common.{◌≡◌, ℕ, zero, suc, ◌+◌, ◌-◌, ◌<◌, ◌≤◌, ◌⊎◌, inl, inr, Bool, true, false, refl, sym, ap, ◌∙◌, subst, arith}
-use Rattle.std.specs.Prelude.{ltb}
-use Rattle.std.proofs.lemmas.Bool.{ltb-false, ltb-true}
+use Rattle.std.proofs.Common.{◌≡◌, ℕ, zero, suc, ◌+◌, ◌<◌, ◌≤◌, refl, sym, ap, ◌∙◌, subst, arith}
 use Rattle.lua_code.specs.Valid.{IsValid}
 use Rattle.lua_steps.specs.Measure.{total, rank, MeasureFalls}
 use Rattle.lua_steps.specs.Machine.{Code, Machine, Went, On, Off, Paused, Stuck}
-use Rattle.lua_steps.specs.Exec.{exec, op_at}
+use Rattle.lua_steps.specs.Exec.{exec}
 use Rattle.lua_steps.specs.Run.{then_on, run}
-use Rattle.lua_follow.specs.Follows.{NarrowAt}
 use Rattle.lua_machine.specs.Runs.{Runs}
 
 on_one : (code : Code) (m : Machine) (w : Went) → exec code m ≡ w → then_on w (run zero code) ≡ w
@@ -29,36 +26,11 @@ run_more : (n : ℕ) (code : Code) (m t : Machine) (w : Went) → exec code t �
 run_more zero code m t w last e = ap (λ (x : Went). then_on x (run zero code)) (one code m t w e last) ∙ on_one code m w (one code m t w e last)
 run_more (suc n) code m t w last e = after n code t w (exec code m) (λ (u : Machine). run_more n code u t w last) e
 
--- where a run has come after so many operations
-abbrev Narrow : Code → Machine → Type 0
-Narrow code t = NarrowAt (op_at code t.top.function t.top.at) t
-
-either : (i n : ℕ) → i < suc n → (i < n) ⊎ (i ≡ n)
-either i n lt = go (ltb i n) refl
-  where
-    go : (b : Bool) → ltb i n ≡ b → (i < n) ⊎ (i ≡ n)
-    go true e = inl (ltb-true _ _ e)
-    go false e = let le : n ≤ i = ltb-false _ _ e in inr (omega (arith, lt, le))
-
-same_place : (n : ℕ) (code : Code) (m t u : Machine) (i : ℕ) → run n code m ≡ On t → i ≡ n → run i code m ≡ On u → t ≡ u
-same_place n code m t u i e is f =
-    let g : run n code m ≡ On u = ap (λ (k : ℕ). run k code m) (sym is) ∙ f in
-    let h : On t ≡ On u = sym e ∙ g in
-    cc
-
-pub runs_more : (code : Code) (m t : Machine) (w : Went) → Narrow code t → Runs code m (On t) → exec code t ≡ w → Runs code m w
-runs_more code m t w narrow r last = record {
-  count = suc r.count;
-  is = run_more r.count code m t w last r.is;
-  narrow = λ i u lt e. (go i u e (either i r.count lt));
-}
-  where
-    go : (i : ℕ) (u : Machine) → run i code m ≡ On u → (i < r.count) ⊎ (i ≡ r.count) → Narrow code u
-    go i u e (inl lt) = r.narrow i u lt e
-    go i u e (inr is) = subst (Narrow code) (same_place r.count code m t u i r.is is e) narrow
+pub runs_more : (code : Code) (m t : Machine) (w : Went) → Runs code m (On t) → exec code t ≡ w → Runs code m w
+runs_more code m t w r last = record { count = suc r.count; is = run_more r.count code m t w last r.is }
 
 pub runs_none : (code : Code) (m : Machine) → Runs code m (On m)
-runs_none code m = record { count = 0; is = refl; narrow = λ i u lt e. absurd (omega (arith, lt)) }
+runs_none code m = record { count = 0; is = refl }
 
 le_self : (n : ℕ) → n ≤ n
 le_self n = omega arith
@@ -86,19 +58,7 @@ run_add (suc n) k code a b e =
     ap (λ (i : ℕ). run i code a) more ∙ add_by n k code b (exec code a) (λ (u : Machine). run_add n k code u b) e
 
 pub runs_join : (code : Code) (a b : Machine) (w : Went) → Runs code a (On b) → Runs code b w → Runs code a w
-runs_join code a b w r s = record {
-  count = r.count + s.count;
-  is = run_add r.count s.count code a b r.is ∙ s.is;
-  narrow = λ i u lt e. (go i u lt e (ltb i r.count) refl);
-}
-  where
-    go : (i : ℕ) (u : Machine) → i < r.count + s.count → run i code a ≡ On u → (c : Bool) → ltb i r.count ≡ c → Narrow code u
-    go i u lt e true is = r.narrow i u (ltb-true _ _ is) e
-    go i u lt e false is =
-        let le : r.count ≤ i = ltb-false _ _ is in
-        let k = i - r.count in
-        let sum : r.count + k ≡ i = omega (arith, le) in
-        s.narrow k u (omega (arith, lt, le)) (sym (run_add r.count k code a b r.is) ∙ ap (λ (j : ℕ). run j code a) sum ∙ e)
+runs_join code a b w r s = record { count = r.count + s.count; is = run_add r.count s.count code a b r.is ∙ s.is }
 
 fall_by : (n : ℕ) (code : Code) (a b : Machine) (x : Went) → MeasureFalls → IsValid code → exec code a ≡ x → ((u : Machine) → run n code u ≡ On b → rank (total code) b ≤ rank (total code) u) → then_on x (run n code) ≡ On b
     → rank (total code) b ≤ rank (total code) a

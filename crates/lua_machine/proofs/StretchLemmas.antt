@@ -6,7 +6,6 @@ use Rattle.lua_code.specs.Valid.{IsValid}
 use Rattle.lua_steps.specs.Machine.{Code, Closure, Machine, On}
 use Rattle.lua_steps.specs.Exec.{op_at, perform_at, exec}
 use Rattle.lua_steps.specs.Measure.{total, rank, MeasureFalls}
-use Rattle.lua_follow.specs.Follows.{NarrowAt}
 use Rattle.lua_machine.specs.declared.pace.Pace.{Pace}
 use Rattle.lua_machine.specs.Runs.{Runs}
 use Rattle.lua_machine.specs.Quick.{Led}
@@ -41,7 +40,7 @@ pub stretched_more : (code : Code) (cs : List Closure) (s t u : Stacked) (first 
 stretched_more code cs s t u first held row cells after start pace then_at o run is goes = record {
   is = λ m same.
       let here = at_work t row cells pace m in
-      runs_more code (at_work s first held start m) here (On (at_work u after cells then_at m)) (subst (λ (x : Option Op). NarrowAt x here) (sym is) (goes.narrow here)) (run.is m same)
+      runs_more code (at_work s first held start m) here (On (at_work u after cells then_at m)) (run.is m same)
       (gone code cs t u row cells after pace then_at o is goes m same);
 }
 

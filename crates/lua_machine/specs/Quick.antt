@@ -1,5 +1,5 @@
 -- Operations that touch slots, cells, the place and ticks alone, as a run of them has these in hand. They are this project's own.
-use Rattle.std.specs.Prelude.{◌≡◌, ℕ, ◌+◌, ◌<◌, Bool, ℤ, List, ◌++◌, length, slice_get, Option, Some}
+use Rattle.std.specs.Prelude.{◌≡◌, ℕ, ◌+◌, ◌<◌, Bool, ℤ, List, ◌++◌, length, slice_get, Option}
 use Rattle.lua_value.specs.declared.value.Value.{Value}
 use Rattle.lua_value.specs.declared.value.Value.TheVariants as value
 use Rattle.lua_model.specs.declared.operator.Binary.{Binary}
@@ -14,7 +14,6 @@ use Rattle.lua_steps.specs.Machine.{Code, Machine, Went, On}
 use Rattle.lua_steps.specs.Moves.{slot, gives, paid, answered}
 use Rattle.lua_steps.specs.Exec.{line, constants_of, constant_value, chosen, unless, perform}
 use Rattle.lua_steps.specs.Loops.{next_turn}
-use Rattle.lua_follow.specs.Follows.{NarrowAt}
 use Rattle.lua_machine.specs.declared.pace.Pace.{Pace}
 use Rattle.lua_machine.specs.declared.pace.Pass.{Pass}
 use Rattle.lua_machine.specs.declared.pace.Pass.TheVariants as pass
@@ -42,16 +41,14 @@ in_hand g row cells pace =
 abbrev pub around : ℕ → List ℕ → List ℕ → List Value → Machine → Around
 around f own ups before m = record { function = f; own = own; ups = ups; before = before; machine = m }
 
--- an operation of a function, which begins no numeric `for`, leads from there to there, whatever else the machine has
+-- an operation of a function leads from there to there, whatever else the machine has
 pub record Quick (code : Code) (f : ℕ) (o : Op) (own ups : List ℕ) (row cells : List Value) (pace : Pace) (after later : List Value) (then_at : Pace) : Type 0 where
   pub is : (before : List Value) (m : Machine)
       → perform code o (in_hand (around f own ups before m) row cells pace) ≡ On (in_hand (around f own ups before m) after later then_at)
-  pub narrow : (m : Machine) → NarrowAt (Some o) m
 
 -- one that touches no cell does
 pub record OnSlots (o : Op) (row : List Value) (pace : Pace) (after : List Value) (then_at : Pace) : Type 0 where
   pub is : (code : Code) (g : Around) (cells : List Value) → perform code o (in_hand g row cells pace) ≡ On (in_hand g after cells then_at)
-  pub narrow : (m : Machine) → NarrowAt (Some o) m
 
 -- some number of operations does
 pub record Ran (code : Code) (f : ℕ) (own ups : List ℕ) (row cells : List Value) (pace : Pace) (after later : List Value) (then_at : Pace) : Type 0 where
@@ -144,23 +141,18 @@ pub record ComputesOne (o : Unary) (v w : Value) : Type 0 where
 
 pub record IsGiven (op : Op) (to : ℕ) (v : Value) : Type 0 where
   pub is : (code : Code) (m : Machine) → perform code op m ≡ gives to v m
-  pub narrow : (m : Machine) → NarrowAt (Some op) m
 
 pub record IsOfSlots (op : Op) (o : Binary) (to p q : ℕ) : Type 0 where
   pub is : (code : Code) (m : Machine) → perform code op m ≡ answered (binary m.aside.heap.texts o (slot m p) (slot m q)) to (line code m) m
-  pub narrow : (m : Machine) → NarrowAt (Some op) m
 
 pub record IsOfInt (op : Op) (o : Binary) (to p : ℕ) (n : ℤ) : Type 0 where
   pub is : (code : Code) (m : Machine) → perform code op m ≡ answered (binary m.aside.heap.texts o (slot m p) (value.Int n)) to (line code m) m
-  pub narrow : (m : Machine) → NarrowAt (Some op) m
 
 pub record IsTestOfSlots (op : Op) (o : Binary) (p q pay to : ℕ) : Type 0 where
   pub is : (code : Code) (m : Machine) → perform code op m ≡ unless (binary m.aside.heap.texts o (slot m p) (slot m q)) (line code m) pay to m
-  pub narrow : (m : Machine) → NarrowAt (Some op) m
 
 pub record IsTestOfInt (op : Op) (o : Binary) (p : ℕ) (n : ℤ) (pay to : ℕ) : Type 0 where
   pub is : (code : Code) (m : Machine) → perform code op m ≡ unless (binary m.aside.heap.texts o (slot m p) (value.Int n)) (line code m) pay to m
-  pub narrow : (m : Machine) → NarrowAt (Some op) m
 
 -- ---- their parts
 -- the next operation follows, with this value in a slot

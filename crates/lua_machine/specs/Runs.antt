@@ -1,9 +1,8 @@
 -- A machine with its code, and its runs. They are this project's own.
-use Rattle.std.specs.Prelude.{◌≡◌, ℕ, ◌-◌, ◌<◌, Bool, true, false, List, [], length}
+use Rattle.std.specs.Prelude.{◌≡◌, ℕ, ◌-◌, Bool, true, false, List, [], length}
 use Rattle.lua_steps.specs.Machine as steps
-use Rattle.lua_steps.specs.Exec.{op_at, opening}
+use Rattle.lua_steps.specs.Exec.{opening}
 use Rattle.lua_steps.specs.Run.{run}
-use Rattle.lua_follow.specs.Follows.{NarrowAt}
 use Rattle.lua_machine.specs.declared.stop.GoError.{GoError}
 use Rattle.lua_machine.specs.declared.stop.GoError.TheVariants as error
 
@@ -11,7 +10,7 @@ pub record Loaded : Type 0 where
   pub code : steps.Code
   -- the ticks of a message
   pub budget : ℕ
-  -- whether it has failed, and runs no more
+  -- whether it has ended or failed, and runs no more
   pub spent : Bool
   pub machine : steps.Machine
 
@@ -25,11 +24,10 @@ loaded code name budget units =
       machine = opening name (length code - 1) (record { texts = []; units = 0; limit = units; counts = true }) budget;
     }
 
--- some number of operations leads there; where a numeric `for` begins on the way, its values have 64 bits
+-- some number of operations leads there
 pub record Runs (code : steps.Code) (m : steps.Machine) (to : steps.Went) : Type 0 where
   pub count : ℕ
   pub is : run count code m ≡ to
-  pub narrow : (i : ℕ) (t : steps.Machine) → i < count → run i code m ≡ steps.On t → NarrowAt (op_at code t.top.function t.top.at) t
 
 -- where the machine says that it is stuck, the code comes to an operation that it cannot do
 abbrev pub StuckIf : GoError → steps.Code → steps.Machine → Type 0

@@ -1,11 +1,10 @@
 -- Stretches of quick operations, calls and returns, which have the frames, the row and the pace in hand. They are this project's own.
-use Rattle.std.specs.Prelude.{◌≡◌, ℕ, ◌+◌, ◌<◌, Bool, true, false, List, ◌∷◌, length, Some}
+use Rattle.std.specs.Prelude.{◌≡◌, ℕ, ◌+◌, ◌<◌, Bool, true, false, List, ◌∷◌, length}
 use Rattle.lua_value.specs.declared.value.Value.{Value}
 use Rattle.lua_code.specs.declared.op.Op.{Op}
 use Rattle.lua_steps.specs.Machine.{Code, Closure, Frame, Wanted, Machine, On}
 use Rattle.lua_steps.specs.Calls.{waiting}
 use Rattle.lua_steps.specs.Exec.{perform}
-use Rattle.lua_follow.specs.Follows.{NarrowAt}
 use Rattle.lua_machine.specs.declared.pace.Pace.{Pace}
 use Rattle.lua_machine.specs.Runs.{Runs}
 use Rattle.lua_machine.specs.Stack.{Stacked, stacked}
@@ -18,10 +17,9 @@ at_work s row cells pace m = record m { top = record s.top { at = pace.at }; bel
 pub record Stretched (code : Code) (closures : List Closure) (s : Stacked) (row cells : List Value) (pace : Pace) (t : Stacked) (after later : List Value) (then_at : Pace) : Type 0 where
   pub is : (m : Machine) → m.closures ≡ closures → Runs code (at_work s row cells pace m) (On (at_work t after later then_at m))
 
--- an operation, which begins no numeric `for`, does
+-- an operation does
 pub record Goes (code : Code) (closures : List Closure) (o : Op) (s : Stacked) (row : List Value) (pace : Pace) (t : Stacked) (after : List Value) (then_at : Pace) : Type 0 where
   pub is : (m : Machine) (cells : List Value) → m.closures ≡ closures → perform code o (at_work s row cells pace m) ≡ On (at_work t after cells then_at m)
-  pub narrow : (m : Machine) → NarrowAt (Some o) m
 
 -- whether a frame is entered; the one at that depth, which had come to that place, waits for its values
 abbrev pub Enters : Bool → Wanted → Frame → ℕ → List Frame → ℕ → List Frame → Type 0

@@ -1,5 +1,5 @@
 -- The parts of the machine, as contracts see them. They are this project's own.
-use Rattle.std.specs.Prelude.{◌≡◌, ℕ, suc, List, [], Option, Some, None, slice_get}
+use Rattle.std.specs.Prelude.{◌≡◌, ℕ, suc, Bool, true, false, List, [], Option, Some, None}
 use Rattle.lua_code.specs.Routine.{Routine}
 use Rattle.lua_steps.specs.Calls.{opened}
 use Rattle.lua_machine.specs.declared.calls.Callee.{Callee}
@@ -27,6 +27,14 @@ stops (stop.Raise v) m = steps.Off (steps.Raise v) m
 stops stop.Budget m = steps.Off steps.Budget m
 stops stop.HeapFull m = steps.Off steps.HeapFull m
 
+-- whether the thread ends there
+abbrev pub ends : Stop → Bool
+ends (stop.Native c) = false
+ends (stop.Return vs) = true
+ends (stop.Raise v) = true
+ends stop.Budget = true
+ends stop.HeapFull = true
+
 -- what an operation leads to
 abbrev pub says : Went → steps.Machine → steps.Went
 says went.On m = steps.On m
@@ -53,14 +61,10 @@ pub record IsClosed (code : steps.Code) (function : ℕ) (m : steps.Machine) (cl
   pub is : (go : Value → steps.Machine → steps.Went) → closed (model.charged model.closure_units m.aside.heap) code function go m ≡ closed_as closure after go
   pub top : after.top ≡ m.top
 
+-- a call of a closure can be entered, or it cannot
 abbrev pub opened_as : Option Routine → steps.Closure → List Value → ℕ → Option Callee → Type 0
 opened_as None c vs base call = call ≡ None
 opened_as (Some f) c vs base call = call ≡ Some (record { frame = opened c f vs base; shape = f.shape })
-
--- a call of a closure can be entered, or it cannot
-abbrev pub IsOpened : List Routine → Option steps.Closure → List Value → ℕ → Option Callee → Type 0
-IsOpened code None vs base call = call ≡ None
-IsOpened code (Some c) vs base call = opened_as (slice_get code c.function) c vs base call
 
 -- how many turns there are, by how many come after the first
 abbrev pub turns_after : Option ℕ → ℕ

@@ -1,10 +1,11 @@
-ghost use Rattle.std.specs.Prelude.{◌≡◌, ◌+◌, ◌<◌, [], ◌∷◌, ◌++◌, ◌≤◌, IfOk, OnOk, slice_get, option_copied, replicate};
+ghost use Rattle.std.specs.Prelude.{◌≡◌, ◌+◌, ◌<◌, [], ◌∷◌, ◌++◌, ◌≤◌, IfOk, OnOk, Some, slice_get, option_copied, replicate};
+ghost use Rattle.lua_value.specs.declared.value.Value.TheVariants as value;
 ghost use Rattle.lua_value.specs.Lists.{adjusted};
 ghost use Rattle.lua_steps.specs.Machine as steps;
 ghost use Rattle.lua_steps.specs.Moves.{received, written, values_from};
 ghost use Rattle.lua_steps.specs.Calls.{room, grown, rest_of, opened, begins, enter, asked, calls, tail_calls, waiting, hand};
 ghost use Rattle.lua_machine.specs.Passes.{Passed};
-ghost use Rattle.lua_machine.specs.Views.{says, IsOpened};
+ghost use Rattle.lua_machine.specs.Views.{says, opened_as};
 ghost use Rattle.lua_machine.specs.Wants.{wanted_of};
 
 use crate::frame::{Frame, Wanted};
@@ -83,19 +84,16 @@ struct Callee {
 }
 
 impl State {
-    /// The frame of a call of a closure; none where it is no closure of this machine.
+    /// The frame of a call of a closure; none where the code has no such function.
     fn open(
         &self,
         code: &[Function],
-        closure: u64,
+        closure: &Closure,
         args: &[Value],
         base: u32,
     ) -> Result<Option<Callee>, NoMemory>
-        ensures { IfOk result (λ call. IsOpened code.now (slice_get self.now.closures closure) args.now base call) }
+        ensures { IfOk result (λ call. opened_as (slice_get code.now closure.now.function) closure.now args.now base call) }
     {
-        let Some(closure) = self.heap.closure_at(closure) else {
-            return Ok(None);
-        };
         let Some(function) = code.get(closure.function() as usize) else {
             return Ok(None);
         };
@@ -128,15 +126,19 @@ impl State {
     fn call_closure(
         &mut self,
         code: &[Function],
+        line: Option<u32>,
         closure: u64,
         args: &[Value],
         base: u32,
         wants: Wanted,
     ) -> Result<Went, NoMemory>
         requires { self.old.top.at < usize.MAX }
-        ensures { IfOk result (λ went. enter code.now (slice_get self.old.closures closure) args.now base (waiting (wanted_of wants) self.old.top ∷ self.old.below) self.old ≡ says went self.new) }
+        ensures { IfOk result (λ went. enter code.now (slice_get self.old.closures closure) line (value.Func closure) args.now base (waiting (wanted_of wants) self.old.top ∷ self.old.below) self.old ≡ says went self.new) }
     {
-        let Some(call) = self.open(code, closure, args, base)? else {
+        let Some(made) = self.heap.closure_at(closure) else {
+            return self.refuse(line, Refusal::Call(Value::Func(closure)));
+        };
+        let Some(call) = self.open(code, made, args, base)? else {
             return Ok(Went::Stuck);
         };
         let Ok(()) = self.pay(u64::from(call.shape.pay)) else {
@@ -153,14 +155,18 @@ impl State {
     fn replace_body(
         &mut self,
         code: &[Function],
+        line: u32,
         closure: u64,
         args: &[Value],
     ) -> Result<Went, NoMemory>
-        ensures { IfOk result (λ went. enter code.now (slice_get self.old.closures closure) args.now self.old.top.base self.old.below self.old ≡ says went self.new) }
+        ensures { IfOk result (λ went. enter code.now (slice_get self.old.closures closure) (Some line) (value.Func closure) args.now self.old.top.base self.old.below self.old ≡ says went self.new) }
     {
         let top = self.stack.top();
         let base = top.base;
-        let Some(call) = self.open(code, closure, args, base)? else {
+        let Some(made) = self.heap.closure_at(closure) else {
+            return self.refuse(Some(line), Refusal::Call(Value::Func(closure)));
+        };
+        let Some(call) = self.open(code, made, args, base)? else {
             return Ok(Went::Stuck);
         };
         let Ok(()) = self.pay(u64::from(call.shape.pay)) else {
@@ -207,6 +213,7 @@ impl State {
     fn call_closure_with(
         &mut self,
         code: &[Function],
+        line: Option<u32>,
         closure: u64,
         args: Span,
         base: u32,
@@ -215,10 +222,10 @@ impl State {
         requires place { self.old.top.at < usize.MAX }
         requires from { args.from < 10000000000 }
         requires apart { args.from < base → args.from + args.count ≤ base }
-        ensures { IfOk result (λ went. enter code.now (slice_get self.old.closures closure) (values_from self.old.row args.from args.count) base (waiting (wanted_of wants) self.old.top ∷ self.old.below) self.old ≡ says went self.new) }
+        ensures { IfOk result (λ went. enter code.now (slice_get self.old.closures closure) line (value.Func closure) (values_from self.old.row args.from args.count) base (waiting (wanted_of wants) self.old.top ∷ self.old.below) self.old ≡ says went self.new) }
     {
         let Some(closure) = self.heap.closure_at(closure) else {
-            return Ok(Went::Stuck);
+            return self.refuse(line, Refusal::Call(Value::Func(closure)));
         };
         let Some(function) = function_at(code, closure.function()) else {
             return Ok(Went::Stuck);
@@ -238,15 +245,16 @@ impl State {
     fn replace_body_with(
         &mut self,
         code: &[Function],
+        line: u32,
         closure: u64,
         args: Span,
     ) -> Result<Went, NoMemory>
         requires from { args.from < 10000000000 }
         requires after { self.old.top.base ≤ args.from }
-        ensures { IfOk result (λ went. enter code.now (slice_get self.old.closures closure) (values_from self.old.row args.from args.count) self.old.top.base self.old.below self.old ≡ says went self.new) }
+        ensures { IfOk result (λ went. enter code.now (slice_get self.old.closures closure) (Some line) (value.Func closure) (values_from self.old.row args.from args.count) self.old.top.base self.old.below self.old ≡ says went self.new) }
     {
         let Some(closure) = self.heap.closure_at(closure) else {
-            return Ok(Went::Stuck);
+            return self.refuse(Some(line), Refusal::Call(Value::Func(closure)));
         };
         let Some(function) = function_at(code, closure.function()) else {
             return Ok(Went::Stuck);
@@ -291,7 +299,9 @@ impl State {
         ensures { IfOk result (λ went. calls code.now line called args base (waiting (wanted_of wants) self.old.top) self.old ≡ says went self.new) }
     {
         match called {
-            Value::Func(closure) => self.call_closure(code, closure, args.as_slice(), base, wants),
+            Value::Func(closure) => {
+                self.call_closure(code, line, closure, args.as_slice(), base, wants)
+            },
             Value::Native(_) => Ok(self.ask(called, args, wants)),
             _ => self.refuse(line, Refusal::Call(called)),
         }
@@ -310,7 +320,7 @@ impl State {
         ensures { IfOk result (λ went. tail_calls code.now line called args base (waiting steps.OnTop self.old.top) self.old ≡ says went self.new) }
     {
         match called {
-            Value::Func(closure) => self.replace_body(code, closure, args.as_slice()),
+            Value::Func(closure) => self.replace_body(code, line, closure, args.as_slice()),
             _ => self.call(code, Some(line), called, args, base, Wanted::OnTop),
         }
     }
@@ -360,7 +370,7 @@ impl State {
         ensures { IfOk result (λ went. calls code.now line called (values_from self.old.row args.from args.count) base (waiting (wanted_of wants) self.old.top) self.old ≡ says went self.new) }
     {
         if let Value::Func(closure) = called {
-            return self.call_closure_with(code, closure, args, base, wants);
+            return self.call_closure_with(code, line, closure, args, base, wants);
         }
         let values = self.values_of(args)?;
         self.call(code, line, called, values, base, wants)
@@ -381,7 +391,7 @@ impl State {
         ensures { IfOk result (λ went. tail_calls code.now line called (values_from self.old.row args.from args.count) base (waiting steps.OnTop self.old.top) self.old ≡ says went self.new) }
     {
         if let Value::Func(closure) = called {
-            return self.replace_body_with(code, closure, args);
+            return self.replace_body_with(code, line, closure, args);
         }
         let values = self.values_of(args)?;
         self.tail_call(code, line, called, values, base)

@@ -4,7 +4,7 @@ ghost use Rattle.lua_value.specs.Same.{is_nil};
 ghost use Rattle.lua_steps.specs.Machine as steps;
 ghost use Rattle.lua_steps.specs.Moves.{jump, paid, slot};
 ghost use Rattle.lua_steps.specs.Loops.{counted, turn, first_turn, numeric_by, numeric_from, next_turn, numeric_next, generic_next};
-ghost use Rattle.lua_follow.specs.Follows.{Narrow};
+ghost use Rattle.lua_value.specs.declared.value.Value.TheVariants as value;
 ghost use Rattle.lua_machine.specs.Views.{says, turns_after};
 
 use crate::state::State;
@@ -81,7 +81,7 @@ impl State {
         operands: Operands,
     ) -> Result<Went, NoMemory>
         requires { self.old.top.at < usize.MAX }
-        ensures { IfOk result (λ went. numeric_by first limit step line operands.pay operands.base operands.to self.old ≡ says went self.new) }
+        ensures { IfOk result (λ went. numeric_from (value.Int first) (value.Int limit) (value.Int step) line operands.pay operands.base operands.to self.old ≡ says went self.new) }
     {
         if step == 0 {
             return self.refuse(Some(line), Refusal::ForStep);
@@ -93,10 +93,7 @@ impl State {
     /// A numeric loop begins, or is left at once.
     pub fn begin_loop(&mut self, operands: Operands, line: u32) -> Result<Went, NoMemory>
         requires { self.old.top.at < usize.MAX }
-        ensures went { IfOk result (λ went. numeric_from (slot self.old operands.base) (slot self.old (operands.base + 1)) (slot self.old (operands.base + 2)) line operands.pay operands.base operands.to self.old ≡ says went self.new) }
-        ensures first { Narrow (slot self.old operands.base) }
-        ensures limit { Narrow (slot self.old (operands.base + 1)) }
-        ensures step { Narrow (slot self.old (operands.base + 2)) }
+        ensures { IfOk result (λ went. numeric_from (slot self.old operands.base) (slot self.old (operands.base + 1)) (slot self.old (operands.base + 2)) line operands.pay operands.base operands.to self.old ≡ says went self.new) }
     {
         let base = operands.base;
         let (Value::Int(first), Value::Int(limit), Value::Int(step)) = (

@@ -3,8 +3,8 @@ ghost use Rattle.lua_code.specs.Valid.{IsValid};
 ghost use Rattle.lua_steps.specs.Calls.{given};
 ghost use Rattle.lua_steps.specs.Exec.{fresh};
 ghost use Rattle.lua_machine.specs.Runs.{loaded, Runs, StuckIf, SpentIf};
-ghost use Rattle.lua_machine.specs.Follows.{Opens, BeginsAnew, Follows, NoRuleIf, StaysKnown, UnknownIf};
-ghost use Rattle.lua_machine.specs.Views.{stops};
+ghost use Rattle.lua_machine.specs.Follows.{Opens, BeginsAnew, Follows, UnwaitedIf};
+ghost use Rattle.lua_machine.specs.Views.{stops, ends};
 
 use crate::frame::{Frame, Wanted};
 use crate::stack::CallStack;
@@ -25,7 +25,7 @@ use std::marker::Model;
 pub struct Machine {
     code: Code,
     budget: u64,
-    /// Whether it has failed.
+    /// Whether it has ended or failed.
     spent: bool,
     state: State,
 }
@@ -114,18 +114,15 @@ impl Machine {
 
     /// Runs to the next stop. The values go to the thread, which waits for them: as the arguments of the chunk, or as the results of the
     /// host's call at which it stopped. Where it waited as a state of the source does, it stops as that state does, with the same values,
-    /// ticks and units. It is stuck only where a function is called that nothing made, which no state calls all of whose functions were
-    /// made, and that is given none but such. After an error the machine is spent.
+    /// ticks and units, and is never stuck. After an error and after each stop but a call of the host the machine is spent.
     pub fn go(&mut self, values: Values) -> Result<Stop, GoError>
         ensures stop { IfOk result (λ stop. Runs self.old.code (given self.old.machine values) (stops stop self.new.machine)) }
         ensures follows { IfOk result (λ stop. Follows self.old.code self.old.machine values stop self.new.machine) }
-        ensures known { IfOk result (λ stop. StaysKnown self.old.code self.old.machine values stop self.new.machine) }
         ensures stuck { IfErr result (λ e. StuckIf e self.old.code (given self.old.machine values)) }
-        ensures no_rule { IfErr result (λ e. NoRuleIf e self.old.code self.old.machine values) }
-        ensures unknown { IfErr result (λ e. UnknownIf e self.old.code self.old.machine values) }
+        ensures unwaited { IfErr result (λ e. UnwaitedIf e self.old.code self.old.machine) }
         ensures was_spent { IfErr result (λ e. SpentIf e self.old.spent) }
         ensures was_sound { OnOk result (self.old.spent ≡ false) }
-        ensures sound { OnOk result (self.new.spent ≡ false) }
+        ensures ended { IfOk result (λ stop. self.new.spent ≡ ends stop) }
         ensures spent { OnErr result (self.new.spent ≡ true) }
         ensures code { self.new.code ≡ self.old.code }
         ensures budget { self.new.budget ≡ self.old.budget }
@@ -137,7 +134,7 @@ impl Machine {
         }
         self.spent = true;
         let stop = self.state.run(self.code.functions(), values)?;
-        self.spent = false;
+        self.spent = stop.is_end();
         Ok(stop)
     }
 }

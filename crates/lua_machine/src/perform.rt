@@ -5,7 +5,6 @@ ghost use Rattle.lua_steps.specs.Machine as steps;
 ghost use Rattle.lua_steps.specs.Moves.{next, jump, slot, gives, paid, answered, slots_from, on_list, with_lists};
 ghost use Rattle.lua_steps.specs.Calls.{calls, tail_calls, waiting, hand};
 ghost use Rattle.lua_steps.specs.Exec.{line, unless, applied, cell_of, new_cell, calls_listed, tail_calls_listed, perform};
-ghost use Rattle.lua_follow.specs.Follows.{NarrowAt};
 ghost use Rattle.lua_machine.specs.Views.{says};
 ghost use Rattle.lua_machine.specs.Wants.{wanted_of};
 
@@ -313,8 +312,7 @@ impl State {
     /// What an operation does.
     pub fn perform(&mut self, code: &[Function], op: Op) -> Result<Went, NoMemory>
         requires { self.old.top.at < usize.MAX }
-        ensures went { IfOk result (λ went. perform code.now op self.old ≡ says went self.new) }
-        ensures narrow { NarrowAt (Some op) self.old }
+        ensures { IfOk result (λ went. perform code.now op self.old ≡ says went self.new) }
     {
         match op {
             Op::Nil { to } => self.puts(to, Value::Nil),

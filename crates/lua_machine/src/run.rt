@@ -3,7 +3,6 @@ ghost use Rattle.lua_code.specs.Valid.{IsValid};
 ghost use Rattle.lua_steps.specs.Machine as steps;
 ghost use Rattle.lua_steps.specs.Calls.{given};
 ghost use Rattle.lua_steps.specs.Exec.{exec, op_at};
-ghost use Rattle.lua_follow.specs.Follows.{NarrowAt};
 ghost use Rattle.lua_machine.specs.Runs.{Runs, StuckIf, SpentIf};
 ghost use Rattle.lua_machine.specs.Views.{says, stops};
 
@@ -41,8 +40,7 @@ pub fn op_in(ops: &[Op], at: usize) -> Option<Op>
 impl State {
     /// The next operation.
     fn step(&mut self, code: &[Function]) -> Result<Went, NoMemory>
-        ensures went { IfOk result (λ went. exec code.now self.old ≡ says went self.new) }
-        ensures narrow { NarrowAt (op_at code.now self.old.top.function self.old.top.at) self.old }
+        ensures { IfOk result (λ went. exec code.now self.old ≡ says went self.new) }
     {
         let top = self.stack.top();
         match fetch(code, top.function, top.at) {

@@ -5,7 +5,6 @@ ghost use Rattle.lua_steps.specs.Moves.{next, jump, slot, with_slot, written, va
 ghost use Rattle.lua_steps.specs.Exec.{chosen, unless};
 ghost use Rattle.lua_value.specs.Lists.{value_at, adjusted};
 ghost use Rattle.lua_operators.specs.Answers.{told};
-ghost use Rattle.lua_follow.specs.Follows.{Narrow};
 ghost use Rattle.lua_machine.specs.Views.{says, IsMade};
 
 use crate::call_info::CallInfo;
@@ -57,24 +56,6 @@ pub fn value_at(values: &[Value], place: usize) -> Value
     match values.get(place) {
         Some(value) => *value,
         None => Value::Nil,
-    }
-}
-
-/// The same value, whose integer has 64 bits.
-fn narrow(value: Value) -> Value
-    ensures is { result ≡ value }
-    ensures narrow { Narrow result }
-{
-    match value {
-        Value::Nil => Value::Nil,
-        Value::Bool(b) => Value::Bool(b),
-        Value::Int(n) => Value::Int(n),
-        Value::Text(text) => Value::Text(text),
-        Value::Table(table) => Value::Table(table),
-        Value::Func(closure) => Value::Func(closure),
-        Value::Native(function) => Value::Native(function),
-        Value::Thread(thread) => Value::Thread(thread),
-        Value::Packed(body) => Value::Packed(body),
     }
 }
 
@@ -173,10 +154,9 @@ impl State {
 
     /// The slot so many after another.
     pub fn slot_after(&self, base: u16, i: u16) -> Value
-        ensures is { result ≡ slot self.now (base + i) }
-        ensures narrow { Narrow result }
+        ensures { result ≡ slot self.now (base + i) }
     {
-        narrow(self.row_at(self.base() + base as usize + i as usize))
+        self.row_at(self.base() + base as usize + i as usize)
     }
 
     pub fn set_slot_after(&mut self, base: u16, i: u16, value: Value)

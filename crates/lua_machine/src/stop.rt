@@ -1,3 +1,6 @@
+ghost use Rattle.std.specs.Prelude.{◌≡◌};
+ghost use Rattle.lua_machine.specs.Views.{ends};
+
 use lua_value::{Value, Values};
 use sk_types::NoMemory;
 use thiserror::Error;
@@ -24,13 +27,25 @@ pub enum Stop {
     HeapFull,
 }
 
+impl Stop {
+    /// Whether the thread ends there: it does at each stop but a call of the host.
+    pub fn is_end(&self) -> bool
+        ensures { result ≡ ends self.now }
+    {
+        match self {
+            Stop::Native(_) => false,
+            Stop::Return(_) | Stop::Raise(_) | Stop::Budget | Stop::HeapFull => true,
+        }
+    }
+}
+
 /// What an operation leads to.
 #[derive(Drop)]
 pub enum Went {
     /// The next operation.
     On,
     Off(Stop),
-    /// There is nothing that it does: code that serves a chunk comes here only where a function is called that nothing made.
+    /// There is nothing that it does. Code that serves a chunk never comes here.
     Stuck,
 }
 
@@ -39,10 +54,10 @@ pub enum Went {
 pub enum GoError {
     #[error("out of memory")]
     Memory,
-    /// The code comes to an operation that it cannot do. Code that serves a chunk does so only where a function is called that nothing made.
+    /// The code comes to an operation that it cannot do. Code that serves a chunk never does.
     #[error("the code is stuck")]
     Stuck,
-    /// It failed before.
+    /// It ended or failed before.
     #[error("the machine is spent")]
     Spent,
 }

@@ -10,6 +10,7 @@ use Rattle.lua_value.specs.Same.{is_true}
 use Rattle.lua_value.specs.Lists.{first}
 use Rattle.lua_model.specs.declared.refusal.Refusal.TheVariants as refusal
 use Rattle.lua_model.specs.Heap as model
+use Rattle.lua_model.specs.Integer as lua
 use Rattle.lua_meaning.specs.State.{Env, Write, Wanted, Result, Values, Focus, Run, Context, RepeatLoopK, CallK, Closure, NativeCall, State, Budget, NoRule, Next, Halt}
 use Rattle.lua_meaning.specs.Moves.{location_of, goes, ticked}
 use Rattle.lua_meaning.specs.Values.{Link, Both, Either, Strict, link_of, linked, chained, suffixed, after_call, at_location, closed, eval, all, items}
@@ -127,47 +128,48 @@ after_sound n (MoreSuffixes x ss) how env vs s ks h = (inr (refl, (omega (arith,
 
 -- ---- calls
 
-enter_sound : (n : ℕ) (o : Option Closure) (vs : List Value) (s : State) (ks : List Context) → Sound n s.left s.aside.heap.units (enter o vs s ks)
-enter_sound n None vs s ks = none_sound n s
-enter_sound n (Some c) vs s ks = pays_sound n s _ ks
+enter_sound : (n : ℕ) (o : Option Closure) (line : Option ℕ) (f : Value) (vs : List Value) (s : State) (inside ks : List Context)
+    → contexts_size ks + resumers_size s.aside.resumers < n → Sound n s.left s.aside.heap.units (enter o line f vs s inside ks)
+enter_sound n None line f vs s inside ks h = refused_sound n line (refusal.Call f) s ks h
+enter_sound n (Some c) line f vs s inside ks h = pays_sound n s _ inside
 
 asked_sound : (n k : ℕ) (c : NativeCall) (s : State) (ks : List Context) → s.left ≤ k → Sound n k s.aside.heap.units (asked k c s ks)
 asked_sound n zero c s ks h = (h, le s.aside.heap.units)
 asked_sound n (suc k) c s ks h = (omega arith, le s.aside.heap.units)
 
-pub calls_sound : (n : ℕ) (line : Option ℕ) (f : Value) (vs : List Value) (env : Env) (s : State) (ks : List Context)
-    → contexts_size ks + resumers_size s.aside.resumers < n → Sound n s.left s.aside.heap.units (calls line f vs env s ks)
-calls_sound n line (value.Func k) vs env s ks h = enter_sound n (slice_get s.closures k) vs s _
-calls_sound n line (value.Native k) vs env s ks h = asked_sound n s.left _ s ks (le s.left)
-calls_sound n line value.Nil vs env s ks h = refused_sound n line (refusal.Call value.Nil) s ks h
-calls_sound n line (value.Bool b) vs env s ks h = refused_sound n line (refusal.Call (value.Bool b)) s ks h
-calls_sound n line (value.Int z) vs env s ks h = refused_sound n line (refusal.Call (value.Int z)) s ks h
-calls_sound n line (value.Text k) vs env s ks h = refused_sound n line (refusal.Call (value.Text k)) s ks h
-calls_sound n line (value.Table k) vs env s ks h = refused_sound n line (refusal.Call (value.Table k)) s ks h
-calls_sound n line (value.Thread k) vs env s ks h = refused_sound n line (refusal.Call (value.Thread k)) s ks h
-calls_sound n line (value.Packed k) vs env s ks h = refused_sound n line (refusal.Call (value.Packed k)) s ks h
+pub calls_sound : (n : ℕ) (line : Option ℕ) (f : Value) (vs : List Value) (s : State) (ks : List Context)
+    → contexts_size ks + resumers_size s.aside.resumers < n → Sound n s.left s.aside.heap.units (calls line f vs s ks)
+calls_sound n line (value.Func k) vs s ks h = enter_sound n (slice_get s.closures k) line (value.Func k) vs s _ ks h
+calls_sound n line (value.Native k) vs s ks h = asked_sound n s.left _ s ks (le s.left)
+calls_sound n line value.Nil vs s ks h = refused_sound n line (refusal.Call value.Nil) s ks h
+calls_sound n line (value.Bool b) vs s ks h = refused_sound n line (refusal.Call (value.Bool b)) s ks h
+calls_sound n line (value.Int z) vs s ks h = refused_sound n line (refusal.Call (value.Int z)) s ks h
+calls_sound n line (value.Text k) vs s ks h = refused_sound n line (refusal.Call (value.Text k)) s ks h
+calls_sound n line (value.Table k) vs s ks h = refused_sound n line (refusal.Call (value.Table k)) s ks h
+calls_sound n line (value.Thread k) vs s ks h = refused_sound n line (refusal.Call (value.Thread k)) s ks h
+calls_sound n line (value.Packed k) vs s ks h = refused_sound n line (refusal.Call (value.Packed k)) s ks h
 
-tail_sound : (n line : ℕ) (f : Value) (vs : List Value) (env : Env) (s : State) (ks : List Context)
-    → contexts_size ks + resumers_size s.aside.resumers < n → Sound n s.left s.aside.heap.units (tail_calls line f vs env s ks)
-tail_sound n line (value.Func k) vs env s ks h = enter_sound n (slice_get s.closures k) vs s _
-tail_sound n line (value.Native k) vs env s ks h = calls_sound n (Some line) (value.Native k) vs env s ks h
-tail_sound n line value.Nil vs env s ks h = calls_sound n (Some line) value.Nil vs env s ks h
-tail_sound n line (value.Bool b) vs env s ks h = calls_sound n (Some line) (value.Bool b) vs env s ks h
-tail_sound n line (value.Int z) vs env s ks h = calls_sound n (Some line) (value.Int z) vs env s ks h
-tail_sound n line (value.Text k) vs env s ks h = calls_sound n (Some line) (value.Text k) vs env s ks h
-tail_sound n line (value.Table k) vs env s ks h = calls_sound n (Some line) (value.Table k) vs env s ks h
-tail_sound n line (value.Thread k) vs env s ks h = calls_sound n (Some line) (value.Thread k) vs env s ks h
-tail_sound n line (value.Packed k) vs env s ks h = calls_sound n (Some line) (value.Packed k) vs env s ks h
+tail_sound : (n line : ℕ) (f : Value) (vs : List Value) (s : State) (ks : List Context)
+    → contexts_size ks + resumers_size s.aside.resumers < n → Sound n s.left s.aside.heap.units (tail_calls line f vs s ks)
+tail_sound n line (value.Func k) vs s ks h = enter_sound n (slice_get s.closures k) (Some line) (value.Func k) vs s _ ks h
+tail_sound n line (value.Native k) vs s ks h = calls_sound n (Some line) (value.Native k) vs s ks h
+tail_sound n line value.Nil vs s ks h = calls_sound n (Some line) value.Nil vs s ks h
+tail_sound n line (value.Bool b) vs s ks h = calls_sound n (Some line) (value.Bool b) vs s ks h
+tail_sound n line (value.Int z) vs s ks h = calls_sound n (Some line) (value.Int z) vs s ks h
+tail_sound n line (value.Text k) vs s ks h = calls_sound n (Some line) (value.Text k) vs s ks h
+tail_sound n line (value.Table k) vs s ks h = calls_sound n (Some line) (value.Table k) vs s ks h
+tail_sound n line (value.Thread k) vs s ks h = calls_sound n (Some line) (value.Thread k) vs s ks h
+tail_sound n line (value.Packed k) vs s ks h = calls_sound n (Some line) (value.Packed k) vs s ks h
 
 pub applied_sound : (n : ℕ) (f : Value) (line : ℕ) (ss : Suffixes) (how : Wanted) (env : Env) (vs : List Value) (s : State) (ks : List Context)
     → n ≡ 1 + (suffixes_size ss + 1) + contexts_size ks + resumers_size s.aside.resumers → Sound n s.left s.aside.heap.units (applied f line ss how env vs s ks)
-applied_sound n f line NoSuffix Result env vs s ks h = tail_sound n line f vs env s ks (omega (arith, h))
-applied_sound n f line NoSuffix Values env vs s ks h = calls_sound n (Some line) f vs env s _ (omega (arith, h))
-applied_sound n f line (MoreSuffixes x ss) how env vs s ks h = calls_sound n (Some line) f vs env s _ (omega (arith, h))
+applied_sound n f line NoSuffix Result env vs s ks h = tail_sound n line f vs s ks (omega (arith, h))
+applied_sound n f line NoSuffix Values env vs s ks h = calls_sound n (Some line) f vs s _ (omega (arith, h))
+applied_sound n f line (MoreSuffixes x ss) how env vs s ks h = calls_sound n (Some line) f vs s _ (omega (arith, h))
 
 pub hand_sound : (n : ℕ) (ks : List Context) (vs : List Value) (s : State) → 1 + contexts_size ks + resumers_size s.aside.resumers < n → Sound n s.left s.aside.heap.units (hand ks vs s)
 hand_sound n [] vs s h = finish_sound n s.aside.resumers vs s (omega arith)
-hand_sound n (CallK line env ∷ ks) vs s h = (inr (refl, (omega arith)), le s.aside.heap.units)
+hand_sound n (CallK line ∷ ks) vs s h = (inr (refl, (omega arith)), le s.aside.heap.units)
 hand_sound n (k ∷ ks) vs s h = hand_sound n ks vs s (omega arith)
 
 pub raised_sound : (n : ℕ) (ks : List Context) (v : Value) (s : State) → contexts_size ks + resumers_size s.aside.resumers ≤ n → Sound n s.left s.aside.heap.units (raised ks v s)
@@ -258,7 +260,7 @@ numeric_by_sound n a b (negsuc c) x p line rest env s ks h = numeric_turn_sound 
 
 numeric_from_sound : (n : ℕ) (u v w : Value) (x : Text) (p : Block) (line : ℕ) (rest : Block) (env : Env) (s : State) (ks : List Context)
     → block_size rest + contexts_size ks + resumers_size s.aside.resumers < n → Sound n s.left s.aside.heap.units (numeric_from u v w x p line rest env s ks)
-numeric_from_sound n (value.Int a) (value.Int b) (value.Int c) x p line rest env s ks h = numeric_by_sound n a b c x p line rest env s ks h
+numeric_from_sound n (value.Int a) (value.Int b) (value.Int c) x p line rest env s ks h = numeric_by_sound n (lua.wrap a) (lua.wrap b) (lua.wrap c) x p line rest env s ks h
 numeric_from_sound n (value.Int a) (value.Int b) w x p line rest env s ks h = refused_sound n (Some line) refusal.ForValues s ks (omega arith)
 numeric_from_sound n (value.Int a) v w x p line rest env s ks h = refused_sound n (Some line) refusal.ForValues s ks (omega arith)
 numeric_from_sound n u v w x p line rest env s ks h = refused_sound n (Some line) refusal.ForValues s ks (omega arith)
@@ -278,7 +280,7 @@ numeric_value_sound n (MoreExps e es) us x p line rest env s ks h = (inr (refl, 
 
 pub generic_call_sound : (n : ℕ) (f state control : Value) (xs : List Text) (p : Block) (line : ℕ) (rest : Block) (env : Env) (s : State) (ks : List Context)
     → block_size rest + 1 + contexts_size ks + resumers_size s.aside.resumers < n → Sound n s.left s.aside.heap.units (generic_call f state control xs p line rest env s ks)
-generic_call_sound n f state control xs p line rest env s ks h = calls_sound n (Some line) f _ env s _ (omega arith)
+generic_call_sound n f state control xs p line rest env s ks h = calls_sound n (Some line) f _ s _ (omega arith)
 
 pub generic_turn_sound : (n : ℕ) (b : Bool) (vs : List Value) (f state : Value) (xs : List Text) (p : Block) (line : ℕ) (rest : Block) (env : Env) (s : State) (ks : List Context)
     → block_size rest + contexts_size ks + resumers_size s.aside.resumers < n → Sound n s.left s.aside.heap.units (generic_turn b vs f state xs p line rest env s ks)

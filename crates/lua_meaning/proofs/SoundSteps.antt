@@ -1,11 +1,11 @@
 -- Each step is sound.
 use Rattle.std.proofs.Common.{◌≡◌, ℕ, ◌+◌, ◌<◌, inr, List, [], ◌∷◌, ◌++◌, length, None, refl, arith}
-use Rattle.std.specs.Prelude.{◌+ℤ◌}
 use Rattle.lua_tree.specs.Source as source
 use Rattle.lua_tree.specs.Source.{Text, Block, Plain, Returns, NoStat, MoreStats, Exp, Exps, NoExp, MoreExps}
 use Rattle.lua_value.specs.declared.value.Value.{Value}
 use Rattle.lua_value.specs.Same.{is_true, is_nil}
 use Rattle.lua_value.specs.Lists.{first, value_at}
+use Rattle.lua_model.specs.Integer as lua
 use Rattle.lua_model.specs.Operators.{binary, unary}
 use Rattle.lua_meaning.specs.State.{Env, Focus, Eval, All, Items, Gives, Lists, Raises, Run, Declares, Stores, Context, UnaryK, ChainK, OperandK, SuffixK, OneK, ItemK, IfK, WhileK, UntilK, ForK, StoreK, CutK, SpreadK, ArgsK, AfterK, LocalK, AssignK, DropK, ReturnK, GenericK, TurnK, BeginK, BlockK, WhileLoopK, RepeatLoopK, NumericLoopK, GenericLoopK, CallK, State}
 use Rattle.lua_meaning.specs.Statements.{pending, returns}
@@ -43,7 +43,7 @@ take_all_sound n (DropK rest env) vs s ks h = (inr (refl, omega (arith, h)), le 
 take_all_sound n ReturnK vs s ks h = hand_sound n ks vs s (omega (arith, h))
 take_all_sound n (GenericK xs body line rest env) vs s ks h = generic_call_sound n (value_at vs 0) (value_at vs 1) (value_at vs 2) xs body line rest env s ks (omega (arith, h))
 take_all_sound n (TurnK f state xs body line rest env) vs s ks h = generic_turn_sound n (is_nil (first vs)) vs f state xs body line rest env s ks (omega (arith, h))
-take_all_sound n (BeginK f) vs s ks h = calls_sound n None f vs (record { locals = []; dots = [] }) s ks (omega (arith, h))
+take_all_sound n (BeginK f) vs s ks h = calls_sound n None f vs s ks (omega (arith, h))
 take_all_sound n _ vs s ks h = none_sound n s
 
 leave_sound : (n : ℕ) (ks : List Context) (env : Env) (s : State) → n ≡ 1 + contexts_size ks + resumers_size s.aside.resumers → Sound n s.left s.aside.heap.units (leave ks env s)
@@ -51,9 +51,9 @@ leave_sound n [] env s h = finish_sound n s.aside.resumers [] s (omega (arith, h
 leave_sound n (BlockK rest outside ∷ ks) env s h = (inr (refl, omega (arith, h)), le s.aside.heap.units)
 leave_sound n (WhileLoopK e body rest outside ∷ ks) env s h = (inr (refl, omega (arith, h)), le s.aside.heap.units)
 leave_sound n (RepeatLoopK body e rest outside ∷ ks) env s h = (inr (refl, omega (arith, h)), le s.aside.heap.units)
-leave_sound n (NumericLoopK m at step x body rest outside ∷ ks) env s h = numeric_turn_sound n m (at +ℤ step) step x body rest outside s ks (omega (arith, h))
+leave_sound n (NumericLoopK m at step x body rest outside ∷ ks) env s h = numeric_turn_sound n m (lua.add at step) step x body rest outside s ks (omega (arith, h))
 leave_sound n (GenericLoopK f state control xs body line rest outside ∷ ks) env s h = generic_call_sound n f state control xs body line rest outside s ks (omega (arith, h))
-leave_sound n (CallK line outside ∷ ks) env s h = (inr (refl, omega (arith, h)), le s.aside.heap.units)
+leave_sound n (CallK line ∷ ks) env s h = (inr (refl, omega (arith, h)), le s.aside.heap.units)
 leave_sound n (_ ∷ ks) env s h = none_sound n s
 
 returns_sound : (n : ℕ) (es : Exps) (env : Env) (s : State) (ks : List Context) → exps_size es + 1 + contexts_size ks + resumers_size s.aside.resumers < n

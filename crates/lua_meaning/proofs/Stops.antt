@@ -69,8 +69,6 @@ not_both s x c t u a b =
 pub determined : StepIsDetermined
 determined =
     record {
-      some = λ s. (reduce s, refl);
-      one = λ s q r a b. sym a ∙ b;
       ends = ends;
       one_stop = one_stop;
       one_call = one_call;

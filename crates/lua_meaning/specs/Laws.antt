@@ -12,9 +12,6 @@ abbrev pub Ends : State → Type 0
 Ends s = ((x : Stop) × (t : State) × Until s x t) ⊎ ((c : NativeCall) × (t : State) × Asks s c t)
 
 pub record StepIsDetermined : Type 0 where
-  -- each state has a next state or a stop, and one alone
-  pub some : (s : State) → (r : Step) × (reduce s ≡ r)
-  pub one : (s : State) (q r : Step) → reduce s ≡ q → reduce s ≡ r → q ≡ r
   -- each state comes to a stop or a call of the host
   pub ends : (s : State) → Ends s
   -- and to one alone

@@ -8,5 +8,4 @@ pub mod Reduce
 pub mod Until
 pub mod Size
 pub mod Laws
-pub mod Known
 pub mod Worked

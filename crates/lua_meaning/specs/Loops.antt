@@ -5,6 +5,7 @@ use Rattle.lua_value.specs.declared.value.Value.{Value}
 use Rattle.lua_value.specs.declared.value.Value.TheVariants as value
 use Rattle.lua_value.specs.Lists.{first, value_at}
 use Rattle.lua_model.specs.declared.refusal.Refusal.TheVariants as refusal
+use Rattle.lua_model.specs.Integer as lua
 use Rattle.lua_meaning.specs.State.{Env, Eval, Run, Declares, Context, ForK, TurnK, WhileLoopK, RepeatLoopK, NumericLoopK, GenericLoopK, State, NoRule, Step, Halt}
 use Rattle.lua_meaning.specs.Moves.{goes, ticked, refused}
 use Rattle.lua_meaning.specs.Calls.{calls}
@@ -37,8 +38,9 @@ numeric_by a b (pos zero) x body line rest env s ks = refused (Some line) refusa
 numeric_by a b (pos (suc c)) x body line rest env s ks = numeric_turn (turns_of a b (pos (suc c))) a (pos (suc c)) x body rest env s ks
 numeric_by a b (negsuc c) x body line rest env s ks = numeric_turn (turns_of a b (negsuc c)) a (negsuc c) x body rest env s ks
 
+-- its values are integers of 64 bits
 abbrev pub numeric_from : Value → Value → Value → Text → Block → ℕ → Block → Env → State → List Context → Step
-numeric_from (value.Int a) (value.Int b) (value.Int c) x body line rest env s ks = numeric_by a b c x body line rest env s ks
+numeric_from (value.Int a) (value.Int b) (value.Int c) x body line rest env s ks = numeric_by (lua.wrap a) (lua.wrap b) (lua.wrap c) x body line rest env s ks
 numeric_from u v w x body line rest env s ks = refused (Some line) refusal.ForValues s ks
 
 -- without a third value the step is 1
@@ -56,7 +58,7 @@ numeric_value (MoreExps e es) us x body line rest env s ks = goes s (Eval e env)
 -- the iterator is called with the state and the control value
 abbrev pub generic_call : Value → Value → Value → List Text → Block → ℕ → Block → Env → State → List Context → Step
 generic_call f state control xs body line rest env s ks =
-    calls (Some line) f (state ∷ control ∷ []) env s (TurnK f state xs body line rest env ∷ ks)
+    calls (Some line) f (state ∷ control ∷ []) s (TurnK f state xs body line rest env ∷ ks)
 
 abbrev pub generic_begin : List Value → List Text → Block → ℕ → Block → Env → State → List Context → Step
 generic_begin vs xs body line rest env s ks = generic_call (value_at vs 0) (value_at vs 1) (value_at vs 2) xs body line rest env s ks

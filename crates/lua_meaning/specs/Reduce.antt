@@ -1,9 +1,10 @@
 -- One small step: the next state, by the form of what is worked on.
-use Rattle.std.specs.Prelude.{List, [], ◌∷◌, ◌++◌, None, ◌+ℤ◌}
+use Rattle.std.specs.Prelude.{List, [], ◌∷◌, ◌++◌, None}
 use Rattle.lua_tree.specs.Source.{Block, Plain, Returns, NoStat, MoreStats}
 use Rattle.lua_value.specs.declared.value.Value.{Value}
 use Rattle.lua_value.specs.Same.{is_true, is_nil}
 use Rattle.lua_value.specs.Lists.{first}
+use Rattle.lua_model.specs.Integer as lua
 use Rattle.lua_model.specs.Operators.{binary, unary}
 use Rattle.lua_meaning.specs.State.{Env, Focus, Eval, All, Items, Gives, Lists, Raises, Run, Declares, Stores, Context, UnaryK, ChainK, OperandK, SuffixK, OneK, ItemK, IfK, WhileK, UntilK, ForK, StoreK, CutK, SpreadK, ArgsK, AfterK, LocalK, AssignK, DropK, ReturnK, GenericK, TurnK, BeginK, BlockK, WhileLoopK, RepeatLoopK, NumericLoopK, GenericLoopK, CallK, State, NoRule, Step, Halt}
 use Rattle.lua_meaning.specs.Moves.{goes, answered, finish}
@@ -39,7 +40,7 @@ take_all (DropK rest env) vs s ks = goes s (Run rest env) ks
 take_all ReturnK vs s ks = hand ks vs s
 take_all (GenericK xs body line rest env) vs s ks = generic_begin vs xs body line rest env s ks
 take_all (TurnK f state xs body line rest env) vs s ks = generic_turn (is_nil (first vs)) vs f state xs body line rest env s ks
-take_all (BeginK f) vs s ks = calls None f vs (record { locals = []; dots = [] }) s ks
+take_all (BeginK f) vs s ks = calls None f vs s ks
 take_all _ vs s ks = Halt NoRule s
 
 -- a block has ended in the scope env; the condition of a `repeat` sees its locals
@@ -48,9 +49,9 @@ leave [] env s = finish s.aside.resumers [] s
 leave (BlockK rest outside ∷ ks) env s = goes s (Run rest outside) ks
 leave (WhileLoopK e body rest outside ∷ ks) env s = goes s (Eval e outside) (WhileK e body rest outside ∷ ks)
 leave (RepeatLoopK body e rest outside ∷ ks) env s = goes s (Eval e env) (UntilK body e rest outside ∷ ks)
-leave (NumericLoopK n at step x body rest outside ∷ ks) env s = numeric_turn n (at +ℤ step) step x body rest outside s ks
+leave (NumericLoopK n at step x body rest outside ∷ ks) env s = numeric_turn n (lua.add at step) step x body rest outside s ks
 leave (GenericLoopK f state control xs body line rest outside ∷ ks) env s = generic_call f state control xs body line rest outside s ks
-leave (CallK line outside ∷ ks) env s = goes s (Lists []) ks
+leave (CallK line ∷ ks) env s = goes s (Lists []) ks
 leave (_ ∷ ks) env s = Halt NoRule s
 
 abbrev pub run : Block → Env → State → List Context → Step

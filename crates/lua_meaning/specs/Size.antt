@@ -79,7 +79,7 @@ context_size (WhileLoopK e body rest env) = exp_size e + block_size rest + 2
 context_size (RepeatLoopK body e rest env) = exp_size e + block_size rest + 2
 context_size (NumericLoopK n at step x body rest env) = block_size rest + 1
 context_size (GenericLoopK f state control xs body line rest env) = block_size rest + 1
-context_size (CallK line env) = 1
+context_size (CallK line) = 1
 
 abbrev pub contexts_size : List Context → ℕ
 contexts_size [] = 0

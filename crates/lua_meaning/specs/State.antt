@@ -88,8 +88,8 @@ pub data Context : Type 0 where
   -- the turns still to come, this turn's value, and the step
   NumericLoopK : (n : ℕ) (at step : ℤ) (x : Text) (body rest : Block) (env : Env) → Context
   GenericLoopK : (f state control : Value) (xs : List Text) (body : Block) (line : ℕ) (rest : Block) (env : Env) → Context
-  -- a function's body, with the line of its call where a script makes it; env is the caller's
-  CallK : (line : Option ℕ) (env : Env) → Context
+  -- a function's body, with the line of its call where a script makes it
+  CallK : (line : Option ℕ) → Context
 
 -- a function of the chunk, with the locations that its names had where it was made
 pub record Closure : Type 0 where

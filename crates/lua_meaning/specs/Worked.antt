@@ -181,6 +181,17 @@ tail =
     Returns (seq (LocalFunction f (body (a ∷ []) false (Returns (seq (If (apply (name a) sign.Equal (int 0)) (Returns NoStat (list (int 7 ∷ []))) NoElse ∷ [])) (list (call (name f) (apply (name a) sign.Subtract (int 1) ∷ []) ∷ [])))) ∷ []))
     (list (call (name f) (int 9 ∷ []) ∷ []))
 
+-- local a = 0  for i = 2 ^ 63, 1 - 2 ^ 63 do a = a + 1 end  return a, where the first number is one that no text has
+abbrev pub beyond_range : Block
+beyond_range =
+    Returns (seq (Local (a ∷ []) (list (int 0 ∷ []))
+    ∷ Numeric i (int 9223372036854775808) (Unary mark.Negate 1 (int 9223372036854775807)) (Plain (seq (set a (apply (name a) sign.Add (int 1)) ∷ []))) 1 ∷ []))
+    (list (name a ∷ []))
+
+-- the empty chunk begins, in a state that lacks its function
+abbrev pub unmade : Outcome
+unmade = outcome_of (iterate 5 (record (opening (codes "m") (Plain NoStat) (counting 100) 100 []) { closures = [] }))
+
 abbrev pub ints : List ℤ → Outcome
 ints zs = Values (values zs)
   where
@@ -198,12 +209,14 @@ pub record ChunksAreAsInLua : Type 0 where
   pub lists_are_cut : gives varargs ≡ ints (pos 1 ∷ pos 3 ∷ pos 5 ∷ pos 6 ∷ [])
   pub lists_are_filled : gives filled ≡ Values (value.Nil ∷ value.Int (pos 2) ∷ value.Int (pos 1) ∷ [])
   pub nothing_wraps : gives ends_of_range ≡ ints (pos 6 ∷ [])
+  pub values_are_words : gives beyond_range ≡ ints (pos 2 ∷ [])
   pub loops_give : gives loops ≡ ints (pos 6 ∷ [])
   pub iterator_gives : gives iterator ≡ ints (pos 27 ∷ [])
   pub links_give : gives links ≡ Values (value.Int (pos 1) ∷ value.Int (pos 3) ∷ value.Nil ∷ [])
   pub strings_give : gives strings ≡ Values (value.Int (pos 2) ∷ value.Bool true ∷ value.Bool true ∷ [])
   pub wrong_raises : gives wrong ≡ Error (codes "m.lua:1: attempt to perform arithmetic on a nil value")
   pub no_function_raises : gives no_function ≡ Error (codes "m.lua:1: attempt to call a nil value")
+  pub unmade_raises : unmade ≡ Error (codes "attempt to call a function value")
   pub endless_stops : gives endless ≡ NoTicks
   pub tail_gives : gives tail ≡ ints (pos 7 ∷ [])
   -- a string of 2 bytes costs one unit

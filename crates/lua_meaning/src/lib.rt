@@ -4,7 +4,6 @@
 #![tactic(auto)]
 
 ghost use Rattle.lua_meaning.specs.Laws.{StepIsDetermined, BudgetFalls, UnitsRise};
-ghost use Rattle.lua_meaning.specs.Known.{KnownStaysKnown};
 ghost use Rattle.lua_meaning.specs.Worked.{ChunksAreAsInLua};
 
 /// Each state has one next state or stop, and comes to one stop, or to one call of the host.
@@ -20,12 +19,6 @@ pub fn law_budget_falls()
 /// The units of the heap never fall.
 pub fn law_units_rise()
     ensures { UnitsRise }
-{}
-
-/// A state all of whose functions were made holds no others later, gives out no others, and calls no others; so does what a chunk begins
-/// as, where its arguments were made.
-pub fn law_known_stays_known()
-    ensures { KnownStaysKnown }
 {}
 
 /// Small chunks give what Lua 5.4 gives.

@@ -123,10 +123,10 @@ begins_lower n k code (Some f) c vs base below m pays is le =
     (λ t. On (record t { top = opened c f vs base; below = below; row = written (grown (base + room f.shape) t.row) base (adjusted f.shape.params vs) }))
     (λ j e. let l = left_less n m.left j f.shape.pay (pays.each c.function f is) e in omega arith)
 
-enter_lower : (n k : ℕ) (code : Code) (o : Option Closure) (vs : List Value) (base : ℕ) (below : List Frame) (m : Machine) → Pays code
-    → m.left * (n + 2) + to_come n below + to_come_above n m.aside.resumers ≤ k → Lower n k (enter code o vs base below m)
-enter_lower n k code None vs base below m pays le = tt
-enter_lower n k code (Some c) vs base below m pays le = begins_lower n k code (slice_get code c.function) c vs base below m pays refl le
+enter_lower : (n k : ℕ) (code : Code) (o : Option Closure) (line : Option ℕ) (f : Value) (vs : List Value) (base : ℕ) (below : List Frame) (m : Machine) → Pays code → m.top.at < n → rank n m ≤ k
+    → m.left * (n + 2) + to_come n below + to_come_above n m.aside.resumers ≤ k → Lower n k (enter code o line f vs base below m)
+enter_lower n k code None line f vs base below m pays lt le low = refused_lower n k line (refusal.Call f) m lt le
+enter_lower n k code (Some c) line f vs base below m pays lt le low = begins_lower n k code (slice_get code c.function) c vs base below m pays refl low
 
 asked_lower : (n k l : ℕ) (m : Machine) (f : Value) (vs : List Value) → Lower n k (asked l (record { called = f; args = vs }) m)
 asked_lower n k zero m f vs = tt
@@ -134,13 +134,13 @@ asked_lower n k (suc l) m f vs = tt
 
 calls_lower : (n k : ℕ) (code : Code) (line : Option ℕ) (f : Value) (vs : List Value) (base : ℕ) (w : Wanted) (top : Frame) (m : Machine) → Pays code → top.at ≡ m.top.at → m.top.at < n
     → rank n m ≤ k → Lower n k (calls code line f vs base (waiting w top) m)
-calls_lower n k code line (value.Func i) vs base w top m pays same lt le = enter_lower n k code _ vs base (waiting w top ∷ m.below) m pays (omega (arith, same))
+calls_lower n k code line (value.Func i) vs base w top m pays same lt le = enter_lower n k code _ line (value.Func i) vs base (waiting w top ∷ m.below) m pays lt le (omega (arith, same))
 calls_lower n k code line (value.Native i) vs base w top m pays same lt le = asked_lower n k m.left (record m { top = waiting w top }) (value.Native i) vs
 calls_lower n k code line f vs base w top m pays same lt le = refused_lower n k line (refusal.Call f) m lt le
 
 tail_lower : (n k : ℕ) (code : Code) (line : ℕ) (f : Value) (vs : List Value) (base : ℕ) (w : Wanted) (top : Frame) (m : Machine) → Pays code → top.at ≡ m.top.at → m.top.at < n
     → rank n m ≤ k → Lower n k (tail_calls code line f vs base (waiting w top) m)
-tail_lower n k code line (value.Func i) vs base w top m pays same lt le = enter_lower n k code _ vs m.top.base m.below m pays (omega arith)
+tail_lower n k code line (value.Func i) vs base w top m pays same lt le = enter_lower n k code _ (Some line) (value.Func i) vs m.top.base m.below m pays lt le (omega arith)
 tail_lower n k code line f vs base w top m pays same lt le = calls_lower n k code (Some line) f vs base w top m pays same lt le
 
 -- ---- loops
@@ -154,7 +154,7 @@ by_lower n k a b (pos (suc c)) line pay base to m lt on le = first_lower n k (tu
 by_lower n k a b (negsuc c) line pay base to m lt on le = first_lower n k (turns_of a b (negsuc c)) a (negsuc c) pay base to m lt on le
 
 from_lower : (n k : ℕ) (u v w : Value) (line pay base to : ℕ) (m : Machine) → m.top.at < n → m.top.at < to → rank n m ≤ k → Lower n k (numeric_from u v w line pay base to m)
-from_lower n k (value.Int a) (value.Int b) (value.Int c) line pay base to m lt on le = by_lower n k a b c line pay base to m lt on le
+from_lower n k (value.Int a) (value.Int b) (value.Int c) line pay base to m lt on le = by_lower n k (lua.wrap a) (lua.wrap b) (lua.wrap c) line pay base to m lt on le
 from_lower n k u v w line pay base to m lt on le = refused_lower n k (Some line) refusal.ForValues m lt le
 
 turn_lower : (n k c : ℕ) (at step : ℤ) (pay base to : ℕ) (m : Machine) → m.top.at < n → 0 < pay → rank n m ≤ k → Lower n k (next_turn c at step pay base to m)

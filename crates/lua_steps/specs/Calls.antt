@@ -44,10 +44,10 @@ begins (Some f) c vs base below m =
       row = written (grown (base + room f.shape) t.row) base (adjusted f.shape.params vs);
     }))
 
--- a closure is entered, with its slots from `base` on and these frames below it
-abbrev pub enter : Code → Option Closure → List Value → ℕ → List Frame → Machine → Went
-enter code None vs base below m = Stuck
-enter code (Some c) vs base below m = begins (slice_get code c.function) c vs base below m
+-- a closure that was made is entered, with its slots from `base` on and these frames below it; any other function is refused
+abbrev pub enter : Code → Option Closure → Option ℕ → Value → List Value → ℕ → List Frame → Machine → Went
+enter code None line f vs base below m = refused line (refusal.Call f) m
+enter code (Some c) line f vs base below m = begins (slice_get code c.function) c vs base below m
 
 -- ---- calls
 -- the host is called, which costs a tick, and the machine waits for its results
@@ -55,15 +55,16 @@ abbrev pub asked : ℕ → NativeCall → Machine → Went
 asked zero c m = Off Budget m
 asked (suc n) c m = Paused c (record m { left = n })
 
--- a call with these arguments, for which the frame `waits` waits; the callee's slots begin at `base`
+-- A call with these arguments, for which the frame `waits` waits; the callee's slots begin at `base`.
+-- A closure that was made is entered; the host's is asked; all else is refused.
 abbrev pub calls : Code → Option ℕ → Value → List Value → ℕ → Frame → Machine → Went
-calls code line (value.Func k) vs base waits m = enter code (slice_get m.closures k) vs base (waits ∷ m.below) m
+calls code line (value.Func k) vs base waits m = enter code (slice_get m.closures k) line (value.Func k) vs base (waits ∷ m.below) m
 calls code line (value.Native k) vs base waits m = asked m.left (record { called = value.Native k; args = vs }) (record m { top = waits })
 calls code line f vs base waits m = refused line (refusal.Call f) m
 
 -- a tail call of a closure: the body that runs is left first, and the called one serves its call
 abbrev pub tail_calls : Code → ℕ → Value → List Value → ℕ → Frame → Machine → Went
-tail_calls code line (value.Func k) vs base waits m = enter code (slice_get m.closures k) vs m.top.base m.below m
+tail_calls code line (value.Func k) vs base waits m = enter code (slice_get m.closures k) (Some line) (value.Func k) vs m.top.base m.below m
 tail_calls code line f vs base waits m = calls code (Some line) f vs base waits m
 
 -- the frame that runs, as it waits for a call: it will go on after it

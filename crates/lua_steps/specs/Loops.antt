@@ -28,9 +28,9 @@ numeric_by a b (pos zero) line pay base to m = refused (Some line) refusal.ForSt
 numeric_by a b (pos (suc c)) line pay base to m = first_turn (turns_of a b (pos (suc c))) a (pos (suc c)) pay base to m
 numeric_by a b (negsuc c) line pay base to m = first_turn (turns_of a b (negsuc c)) a (negsuc c) pay base to m
 
--- the count of turns is fixed before the first; a step 0 is refused
+-- its values are integers of 64 bits; the count of turns is fixed before the first, and a step 0 is refused
 abbrev pub numeric_from : Value → Value → Value → ℕ → ℕ → ℕ → ℕ → Machine → Went
-numeric_from (value.Int a) (value.Int b) (value.Int c) line pay base to m = numeric_by a b c line pay base to m
+numeric_from (value.Int a) (value.Int b) (value.Int c) line pay base to m = numeric_by (lua.wrap a) (lua.wrap b) (lua.wrap c) line pay base to m
 numeric_from u v w line pay base to m = refused (Some line) refusal.ForValues m
 
 -- the next turn, or the end of the loop

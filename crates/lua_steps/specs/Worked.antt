@@ -65,6 +65,11 @@ abbrev pub downwards : List Op
 downwards =
     op.Int 0 (pos 0) ∷ op.Int 1 (pos 3) ∷ op.Int 2 (pos 1) ∷ op.Int 3 (negsuc 1) ∷ op.ForPrep 1 1 7 ∷ op.Add 0 0 4 ∷ op.ForLoop 1 1 5 ∷ op.Return 0 1 ∷ []
 
+-- a = 0  for i = 2 ^ 63, 1 - 2 ^ 63 do a = a + 1 end  return a, where the first number is one that no text has
+abbrev pub beyond_range : List Op
+beyond_range =
+    op.Int 0 (pos 0) ∷ op.Int 1 (pos 9223372036854775808) ∷ op.Int 2 (negsuc 9223372036854775806) ∷ op.Int 3 (pos 1) ∷ op.ForPrep 1 1 7 ∷ op.AddInt 0 0 (pos 1) ∷ op.ForLoop 1 1 5 ∷ op.Return 0 1 ∷ []
+
 -- for i = 1, 2, 0 do end
 abbrev pub no_step : List Op
 no_step = op.Int 1 (pos 1) ∷ op.Int 2 (pos 2) ∷ op.Int 3 (pos 0) ∷ op.ForPrep 1 1 4 ∷ op.Return 0 0 ∷ []
@@ -125,12 +130,15 @@ pub record CodeRunsAsInLua : Type 0 where
   pub integer_divides : gives none by_integer ≡ ints (negsuc 3 ∷ [])
   pub cells_are_shared : gives adds shared ≡ ints (pos 3 ∷ [])
   pub loop_gives : gives none downwards ≡ ints (pos 4 ∷ [])
+  pub values_are_words : gives none beyond_range ≡ ints (pos 2 ∷ [])
   pub step_is_refused : gives none no_step ≡ Error (codes "m.lua:1: for step is zero")
   pub lists_are_whole : gives turned all_values ≡ ints (pos 2 ∷ pos 1 ∷ pos 3 ∷ pos 4 ∷ [])
   pub lists_are_filled : gives turned some_values ≡ Values (value.Int (pos 2) ∷ value.Int (pos 1) ∷ value.Nil ∷ [])
   pub iterator_gives : gives counts iterated ≡ ints (pos 6 ∷ [])
   pub strings_compare : gives none joined ≡ Values (value.Bool true ∷ [])
   pub wrong_raises : gives none wrong ≡ Error (codes "m.lua:1: attempt to perform arithmetic on a nil value")
+  -- a machine that lacks the chunk's function
+  pub unmade_raises : outcome_of (run 200 (code none endless) (record (begun 100 100) { closures = [] })) ≡ Error (codes "attempt to call a function value")
   pub endless_stops : gives none endless ≡ NoTicks
   -- a call and a closure cost 1 each
   pub call_is_paid : outcome_of (run 100 (code none (op.Return 0 0 ∷ [])) (begun 0 100)) ≡ NoTicks

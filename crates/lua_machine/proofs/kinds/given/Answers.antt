@@ -6,5 +6,4 @@ pub returns-clause-ok : goal.returns-clause-ok
 returns-clause-ok c =
     record {
       is = λ code g cells. c.requires.op.is code (in_hand g c.args.row.now cells c.args.pace) ∙ c.gives.ensures.gives.is g cells;
-      narrow = c.requires.op.narrow;
     }

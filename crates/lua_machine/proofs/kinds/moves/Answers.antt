@@ -1,9 +1,8 @@
-use Rattle.std.proofs.Common.{Some, sym, ap, ◌∙◌, subst}
+use Rattle.std.proofs.Common.{sym, ap, ◌∙◌}
 use Rattle.lua_value.specs.declared.value.Value.{Value}
 use Rattle.lua_code.specs.declared.op.Op.{Op}
 use Rattle.lua_steps.specs.Moves.{gives}
 use Rattle.lua_steps.specs.Exec.{perform}
-use Rattle.lua_follow.specs.Follows.{NarrowAt}
 use Rattle.lua_machine.specs.Quick.{in_hand}
 use Rattle.lua_machine.proofs.QuickLemmas.{value_after}
 use Rattle.lua_machine.proofs.kinds.moves.Goals as goal
@@ -17,5 +16,4 @@ returns-clause-ok c =
           ap (λ (o : Op). perform code o x) c.requires.op
           ∙ ap (λ (v : Value). gives c.args.to v x) (value_after g.before row c.args.from ∙ sym c.slot-value.ensures)
           ∙ c.gives.ensures.gives.is g cells;
-      narrow = λ m. subst (λ (o : Op). NarrowAt (Some o) m) (sym c.requires.op) tt;
     }

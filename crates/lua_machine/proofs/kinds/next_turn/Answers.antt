@@ -25,5 +25,4 @@ returns-clause-ok c =
           ∙ ap (λ (z : ℤ). next_turn c.cast_unsigned-turns.result z ints.step c.args.pay base c.args.to.now x) at
           ∙ ap (λ (z : ℤ). next_turn c.cast_unsigned-turns.result (to_z w64 (of_z w64 ints.value)) z c.args.pay base c.args.to.now x) step
           ∙ h.is g cells;
-      narrow = λ m. tt;
     }) c.turn_by.ensures.ok

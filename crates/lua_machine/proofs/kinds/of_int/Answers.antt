@@ -21,5 +21,4 @@ returns-clause-ok c =
           ∙ ap (λ (a : Answer). answered a c.args.to (line code x) x)
           (ap₂ (binary texts c.args.o) (value_after g.before row c.args.left ∙ sym c.slot-u.ensures) (sym imm) ∙ c.in-Some.ensures.is texts)
           ∙ c.gives.ensures.gives.is g cells;
-      narrow = c.requires.op.narrow;
     }

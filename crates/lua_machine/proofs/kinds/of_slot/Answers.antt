@@ -1,10 +1,9 @@
-use Rattle.std.proofs.Common.{Some, sym, ap, ◌∙◌, subst}
+use Rattle.std.proofs.Common.{sym, ap, ◌∙◌}
 use Rattle.lua_model.specs.Answer.{Answer}
 use Rattle.lua_model.specs.Operators.{unary}
 use Rattle.lua_code.specs.declared.op.Op.{Op}
 use Rattle.lua_steps.specs.Moves.{answered}
 use Rattle.lua_steps.specs.Exec.{line, perform}
-use Rattle.lua_follow.specs.Follows.{NarrowAt}
 use Rattle.lua_machine.specs.Quick.{in_hand}
 use Rattle.lua_machine.proofs.QuickLemmas.{value_after}
 use Rattle.lua_machine.proofs.kinds.of_slot.Goals as goal
@@ -19,5 +18,4 @@ returns-clause-ok c =
           ap (λ (o : Op). perform code o x) c.requires.op
           ∙ ap (λ (a : Answer). answered a c.args.to (line code x) x) (ap (unary texts c.args.o) (value_after g.before row c.args.from ∙ sym c.slot-v.ensures) ∙ c.in-Some.ensures.is texts)
           ∙ c.gives.ensures.gives.is g cells;
-      narrow = λ m. subst (λ (o : Op). NarrowAt (Some o) m) (sym c.requires.op) tt;
     }

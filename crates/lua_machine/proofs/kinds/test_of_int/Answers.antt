@@ -21,5 +21,4 @@ returns-clause-ok c =
           (ap₂ (binary texts c.args.o) (value_after g.before row c.args.left ∙ sym c.slot-u.ensures) (sym imm) ∙ c.in-Some.ensures.is texts)
           ∙ ap (λ (b : Bool). chosen b c.args.pay c.args.to.now x) (sym c.is_true.ensures)
           ∙ h.is g row cells;
-      narrow = c.requires.op.narrow;
     }) c.chooses.ensures.ok

@@ -46,5 +46,4 @@ returns-clause-goes c =
           let is_routine : slice_get code k.function ≡ Some f = ap (λ (i : ℕ). slice_get code i) (sym c.function.ensures) ∙ sym c.in-Some-function_at.ensures in
           passes_call code x base c.args.args c.args.results c.in-Func.number place k f t is_func is_closure is_routine is_place fits entered
           ∙ ap (λ (n : ℕ). steps.On (record x { top = record t.top { at = 0 }; below = t.below; left = c.args.pace.left - n })) (sym pay);
-      narrow = λ m. tt;
     }

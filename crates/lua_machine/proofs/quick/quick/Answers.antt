@@ -1,11 +1,10 @@
-use Rattle.std.proofs.Common.{ℕ, Some, sym, ap, ap₂, ◌∙◌, subst}
+use Rattle.std.proofs.Common.{ℕ, sym, ap, ap₂, ◌∙◌}
 use Rattle.std.specs.Prelude.{slice_set, List}
 use Rattle.lua_value.specs.declared.value.Value.{Value}
 use Rattle.lua_heap.specs.Contents.{Contents}
 use Rattle.lua_code.specs.declared.op.Op.{Op}
 use Rattle.lua_steps.specs.Moves.{next}
 use Rattle.lua_steps.specs.Exec.{perform, constant_at, constant_value}
-use Rattle.lua_follow.specs.Follows.{NarrowAt}
 use Rattle.lua_machine.specs.Nests.{own_in, ups_in}
 use Rattle.lua_machine.specs.declared.pace.Pace.{Pace}
 use Rattle.lua_machine.specs.Quick.{around, in_hand, Quick}
@@ -28,7 +27,6 @@ returns-in-Constant-clause-ok g c =
           ap (λ (o : Op). perform code o x) there.is
           ∙ ap (λ (n : ℕ). constant_value (constant_at code n there.index) there.to x) (sym c.function_of-function.ensures)
           ∙ h.is g cells;
-      narrow = λ m. subst (λ (o : Op). NarrowAt (Some o) m) (sym there.is) tt;
     }) c.constant_of.ensures.ok)
 
 pub returns-in-GetCell-clause-ok : goal.returns-in-GetCell-clause-ok
@@ -41,7 +39,6 @@ returns-in-GetCell-clause-ok g c =
       is = λ before m.
           let g = around c.args._function own ups before m in
           ap (λ (o : Op). perform c.args.code.now o (in_hand g c.args.row.now cells c.args.pace.now)) c.in-GetCell.is ∙ h.is g cells;
-      narrow = λ m. subst (λ (o : Op). NarrowAt (Some o) m) (sym c.in-GetCell.is) tt;
     }) c.reads_own.ensures.ok)
 
 pub returns-in-GetUp-clause-ok : goal.returns-in-GetUp-clause-ok
@@ -54,7 +51,6 @@ returns-in-GetUp-clause-ok g c =
       is = λ before m.
           let g = around c.args._function own ups before m in
           ap (λ (o : Op). perform c.args.code.now o (in_hand g c.args.row.now cells c.args.pace.now)) c.in-GetUp.is ∙ h.is g cells;
-      narrow = λ m. subst (λ (o : Op). NarrowAt (Some o) m) (sym c.in-GetUp.is) tt;
     }) c.reads_up.ensures.ok)
 
 pub returns-in-SetCell-clause-ok : goal.returns-in-SetCell-clause-ok
@@ -67,7 +63,6 @@ returns-in-SetCell-clause-ok g c =
           ap (λ (o : Op). perform c.args.code.now o x) c.in-SetCell.is
           ∙ ap₂ (λ (k : ℕ) (v : Value). next (record x { cells = slice_set cells k v })) (sym c.own_of.ensures) (value_after before row c.in-SetCell.from ∙ sym c.slot.ensures)
           ∙ ap (λ (cs : List Value). next (record x { cells = cs })) (sym (ap (λ (h : Contents). h.cells) c.put_in_cell.ensures));
-      narrow = λ m. subst (λ (o : Op). NarrowAt (Some o) m) (sym c.in-SetCell.is) tt;
     }
 
 pub returns-in-SetUp-clause-ok : goal.returns-in-SetUp-clause-ok
@@ -80,5 +75,4 @@ returns-in-SetUp-clause-ok g c =
           ap (λ (o : Op). perform c.args.code.now o x) c.in-SetUp.is
           ∙ ap₂ (λ (k : ℕ) (v : Value). next (record x { cells = slice_set cells k v })) (sym c.up_of.ensures) (value_after before row c.in-SetUp.from ∙ sym c.slot-in-SetUp.ensures)
           ∙ ap (λ (cs : List Value). next (record x { cells = cs })) (sym (ap (λ (h : Contents). h.cells) c.put_in_cell-in-SetUp.ensures));
-      narrow = λ m. subst (λ (o : Op). NarrowAt (Some o) m) (sym c.in-SetUp.is) tt;
     }

@@ -1,5 +1,6 @@
 use Rattle.std.proofs.Common.{◌≡◌, ℕ, ◌+◌, ◌-◌, ◌<◌, ◌≤◌, ◌∷◌, Some, sym, ap, ◌∙◌, arith}
 use Rattle.std.specs.Prelude.{slice_get}
+use Rattle.lua_value.specs.declared.value.Value.TheVariants as value
 use Rattle.lua_value.specs.Lists.{adjusted}
 use Rattle.lua_code.specs.declared.function.Shape.{Shape}
 use Rattle.lua_steps.specs.Machine as steps
@@ -20,7 +21,7 @@ returns-then-self-from c =
     let pay : c.from.result ≡ f.shape.pay = c.from.ensures ∙ ap (λ (x : Shape). x.pay) c.shape-shape.ensures in
     let left : c.self.inside.left ≡ m.left = ap (λ (x : steps.Machine). x.left) c.self.view_is in
     let short : c.self.inside.left < c.from.result = c.if-self-from.true in
-    not_entered c.args.code.now m c.args.closure k f (values_from m.row c.args.args.from c.args.args.count) c.args.base (waiting (wanted_of c.args.wants) m.top ∷ m.below) is_closure is_routine (omega arith)
+    not_entered c.args.code.now m c.args.closure c.args.line (value.Func c.args.closure) k f (values_from m.row c.args.args.from c.args.args.count) c.args.base (waiting (wanted_of c.args.wants) m.top ∷ m.below) is_closure is_routine (omega arith)
 
 pub returns : goal.returns
 returns c =
@@ -47,4 +48,4 @@ returns c =
       row = written (grown (b + room shape) x.row) b (adjusted shape.params (values_from x.row s n));
       left = x.left - c.from-2.result;
     } in
-    entered c.args.code.now m c.take_args.new.self c.args.closure k f shape c.begin.new.self (values_from m.row s n) b c.from-2.result (waits ∷ m.below) is_closure is_routine c.shape-shape.ensures pay (omega arith) stack (c.in_ok-take_args.ensures ∙ ap begun c.self.view_is)
+    entered c.args.code.now m c.take_args.new.self c.args.closure c.args.line (value.Func c.args.closure) k f shape c.begin.new.self (values_from m.row s n) b c.from-2.result (waits ∷ m.below) is_closure is_routine c.shape-shape.ensures pay (omega arith) stack (c.in_ok-take_args.ensures ∙ ap begun c.self.view_is)
