@@ -1,6 +1,6 @@
 use crate::chunks::chunk;
-use lua_chunk::{LoadError, load};
-use lua_machine::{GoError, Stop};
+use lua_chunk::LoadError;
+use lua_machine::Stop;
 use lua_value::{Value, Values};
 use sk_types::{Bytes, NoMemory};
 use std::alloc::Global;
@@ -19,8 +19,6 @@ pub enum BenchError {
     Usage,
     #[error("{0}")]
     Load(LoadError),
-    #[error("{0}")]
-    Go(GoError),
     #[error("the chunk returned no integer")]
     NoInteger,
     #[error("out of memory")]
@@ -52,13 +50,9 @@ pub fn run(alloc: Global, words: &[String]) -> Result<i64, BenchError> {
 fn stop(alloc: Global, source: &[u8], count: i64) -> Result<Stop, BenchError> {
     let name = Bytes::from_slice(alloc, b"bench")?;
     let values = Values::one(alloc, Value::Int(count))?;
-    let mut machine = match load(alloc, source, name, TICKS, UNITS) {
-        Ok(machine) => machine,
-        Err(error) => return Err(BenchError::Load(error)),
-    };
-    match machine.go(values) {
-        Ok(stop) => Ok(stop),
-        Err(error) => Err(BenchError::Go(error)),
+    match lua_chunk::run(alloc, source, name, TICKS, UNITS, values) {
+        Ok(run) => Ok(run.stop),
+        Err(error) => Err(BenchError::Load(error)),
     }
 }
 

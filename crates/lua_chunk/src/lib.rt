@@ -3,7 +3,7 @@
 
 mod loader;
 
-pub use loader::{LoadError, load};
+pub use loader::{LoadError, Run, load, run};
 
 #[cfg(test)]
 mod tests;

@@ -6,14 +6,15 @@ ghost use Rattle.lua_syntax.specs.Script.{IsFault, Reads};
 ghost use Rattle.lua_code.specs.Valid.{IsValid};
 ghost use Rattle.lua_steps.specs.Serves.{Serves};
 ghost use Rattle.lua_compile.specs.HasCode.{HasCode};
-ghost use Rattle.lua_chunk.specs.Load.{HasCause, IsLoaded, LacksCodeIf, Refuses, Succeeds};
+ghost use Rattle.lua_chunk.specs.Load.{Begins, ComesTo, HasCause, IsLoaded, LacksCodeIf, Refuses, Succeeds};
 
 use lua_code::Code;
 use lua_compile::{CompileError, compile};
-use lua_machine::Machine;
+use lua_machine::{Machine, Stop};
 use lua_scope::resolve;
 use lua_syntax::{ParseError, law_one_reading, parse};
 use lua_tree::Chunk;
+use lua_value::Values;
 use sk_types::{Bytes, NoMemory, SyntaxFault};
 use std::alloc::Global;
 use thiserror::Error;
@@ -84,6 +85,7 @@ pub fn load(
     units: u64,
 ) -> Result<Machine, LoadError>
     ensures machine { IfOk result (λ m. IsLoaded text.now name budget units m) }
+    ensures begins { IfOk result (λ m. Begins text.now name budget units m) }
     ensures cause { IfErr result (HasCause text.now) }
     ensures refused { (f : SyntaxFault) → IsFault text.now f → Refuses f result }
     ensures succeeds { (chunk : Chunk) → Reads text.now chunk → HasCode (chunk_of chunk) → Succeeds result }
@@ -93,4 +95,33 @@ pub fn load(
     let code = code_of(alloc, &chunk)?;
     let machine = Machine::new(alloc, code, name, budget, units)?;
     Ok(machine)
+}
+
+/// A chunk that has run to a stop, and the machine that ran it.
+#[derive(Drop)]
+pub struct Run {
+    pub machine: Machine,
+    pub stop: Stop,
+}
+
+/// Runs a text with these values to its first stop: the results or the error of the chunk that it reads as, its first call of the host,
+/// or the limit that it passes. The other arguments and the errors are those of `load`.
+pub fn run(
+    alloc: Global,
+    text: &[u8],
+    name: Bytes,
+    budget: u64,
+    units: u64,
+    values: Values,
+) -> Result<Run, LoadError>
+    ensures outcome { IfOk result (λ r. ComesTo text.now name budget units values r.stop r.machine) }
+    ensures cause { IfErr result (HasCause text.now) }
+    ensures refused { (f : SyntaxFault) → IsFault text.now f → Refuses f result }
+{
+    let mut machine = load(alloc, text, name, budget, units)?;
+    match machine.go(values) {
+        Ok(stop) => Ok(Run { machine, stop }),
+        // A machine that was loaded is neither stuck nor spent.
+        Err(_) => Err(LoadError::Memory),
+    }
 }
