@@ -3,7 +3,7 @@
 
 mod loader;
 
-pub use loader::{LoadError, Run, load, run};
+pub use loader::{LoadError, Stopped, load, run};
 
 #[cfg(test)]
 mod tests;

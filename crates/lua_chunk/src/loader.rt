@@ -99,7 +99,7 @@ pub fn load(
 
 /// A chunk that has run to a stop, and the machine that ran it.
 #[derive(Drop)]
-pub struct Run {
+pub struct Stopped {
     pub machine: Machine,
     pub stop: Stop,
 }
@@ -113,14 +113,14 @@ pub fn run(
     budget: u64,
     units: u64,
     values: Values,
-) -> Result<Run, LoadError>
+) -> Result<Stopped, LoadError>
     ensures outcome { IfOk result (λ r. ComesTo text.now name budget units values r.stop r.machine) }
     ensures cause { IfErr result (HasCause text.now) }
     ensures refused { (f : SyntaxFault) → IsFault text.now f → Refuses f result }
 {
     let mut machine = load(alloc, text, name, budget, units)?;
     match machine.go(values) {
-        Ok(stop) => Ok(Run { machine, stop }),
+        Ok(stop) => Ok(Stopped { machine, stop }),
         // A machine that was loaded is neither stuck nor spent.
         Err(_) => Err(LoadError::Memory),
     }

@@ -1,19 +1,19 @@
 //! With ample memory no call answers want of it. What chunks do is tried by `lua_cases`.
 
-use crate::{LoadError, Run, run};
+use crate::{LoadError, Stopped, run};
 use lua_machine::Stop;
 use lua_value::{Value, Values};
 use sk_types::{Bytes, SyntaxKind};
 use std::alloc::Global;
 use std::test::Fail;
 
-fn ran(alloc: Global, source: &[u8], values: &[Value]) -> Result<Result<Run, LoadError>, Fail> {
+fn ran(alloc: Global, source: &[u8], values: &[Value]) -> Result<Result<Stopped, LoadError>, Fail> {
     let name = Bytes::from_slice(alloc, b"m")?;
     let values = Values::from_slice(alloc, values)?;
     Ok(run(alloc, source, name, 100, 100, values))
 }
 
-fn returned(run: &Run) -> &[Value] {
+fn returned(run: &Stopped) -> &[Value] {
     match &run.stop {
         Stop::Return(values) => values.as_slice(),
         _ => &[],
@@ -24,7 +24,7 @@ fn returned(run: &Run) -> &[Value] {
 fn a_chunk_takes_values(rt: HostRuntime) -> Result<(), Fail> {
     let values = [Value::Int(7), Value::Int(8)];
     let run = ran(rt.alloc(), b"local a, b, c = ... return c, a + b", &values)??;
-    assert!(rt; returned(&run) == [Value::Nil, Value::Int(15)]);
+    assert!(rt; returned(&run) == [Value::Nil, Value::Int(15)].as_slice());
     Ok(())
 }
 
