@@ -25,6 +25,3 @@ pub use chunk_code::{CompileError, compile, write_chunk};
 pub use law::{
     law_chunks_have_code, law_compiled_code_is_valid, law_compiled_code_serves, law_worked_chunks,
 };
-
-#[cfg(test)]
-mod tests;

@@ -24,6 +24,3 @@ mod stretch;
 
 pub use machine::Machine;
 pub use stop::{GoError, NativeCall, Stop};
-
-#[cfg(test)]
-mod tests;

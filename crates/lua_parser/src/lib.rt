@@ -11,6 +11,3 @@ mod verdict;
 
 pub use error::ParseError;
 pub use parser::parse_tokens;
-
-#[cfg(test)]
-mod tests;

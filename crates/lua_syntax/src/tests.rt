@@ -1,5 +1,7 @@
 //! Texts whose faults the manual's grammar tells, and texts that read, with ample memory.
 
+mod trees;
+
 use crate::{ParseError, parse};
 use sk_types::{SyntaxFault, SyntaxKind};
 use std::alloc::Global;
@@ -61,6 +63,10 @@ fn bounds_are_kept(rt: HostRuntime) -> Result<(), Fail> {
     let nested = repeated(alloc, b"return ", b"(", 200, b"1")?;
     let nested = repeated(alloc, &nested, b")", 200, b"\n")?;
     assert!(rt; parse(alloc, &nested).is_ok());
+    let flat = repeated(alloc, b"return x", b"(\n1)", 200, b"")?;
+    assert!(rt; parse(alloc, &flat).is_ok());
+    let calls = repeated(alloc, b"return x", b"(\nx", 201, b"")?;
+    check_fault(&rt, alloc, &calls, 201, SyntaxKind::Nesting);
     let deeper = repeated(alloc, b"return ", b"(", 201, b"1")?;
     check_fault(&rt, alloc, &deeper, 1, SyntaxKind::Nesting);
     let locals = repeated(alloc, b"", b"local x\n", 200, b"return x")?;
@@ -73,9 +79,9 @@ fn bounds_are_kept(rt: HostRuntime) -> Result<(), Fail> {
 #[test]
 fn long_texts_read(rt: HostRuntime) -> Result<(), Fail> {
     let alloc = rt.alloc();
-    let sum = repeated(alloc, b"return 1", b"+1", 30_000, b"\n")?;
+    let sum = repeated(alloc, b"return 1", b"+1", 100_000, b"\n")?;
     assert!(rt; parse(alloc, &sum).is_ok());
-    let calls = repeated(alloc, b"f", b"()", 30_000, b"\n")?;
+    let calls = repeated(alloc, b"f", b"()", 100_000, b"\n")?;
     assert!(rt; parse(alloc, &calls).is_ok());
     let statements = repeated(alloc, b"", b"x = 1;", 10_000, b"\n")?;
     assert!(rt; parse(alloc, &statements).is_ok());
