@@ -27,7 +27,7 @@ use Rattle.schedule_core.specs.declared.action.Action.{Action}
 use Rattle.schedule_core.specs.declared.action.Action.TheVariants as does
 use Rattle.schedule_core.specs.Turns.{Turns, handed, one_in, in_hand, ArePlaced, AreEmpty, AreOpening, first_turns, laid, sent_last, joined, turns_after, IsFetch}
 use Rattle.schedule_core.specs.Levels.{Levels, IsOver, IsTwo, HasTimers, CellOk}
-use Rattle.schedule_core.specs.Steps.{ParksAt, ParksBy, IsPark, IsRequeue, IsExchange, with_hand, IsAct, IsClock, IsStep, Cannot, Tries, Runs}
+use Rattle.schedule_core.specs.Steps.{ParksAt, ParksBy, IsPark, IsRequeue, IsExchange, with_hand, IsLaunch, IsAct, IsClock, IsStep, Cannot, Tries, Runs}
 use Rattle.schedule_core.specs.Laws.{IsRun, StepsKeepTwo, AreFirst, IsSettled, CallsAreSettled}
 use Rattle.schedule_core.specs.Cores.{IsFit}
 use Rattle.schedule_core.proofs.Lists.{at_nothing}
@@ -80,8 +80,8 @@ module _ {S : Type 0} (way : Way S) (c : Levels S) (two : IsTwo way c) where
   pub parked : (i : ℕ) (own : Handle) (t2 : Turns) → IsPark way c.world c.turns i own t2 → IsTwo way (With t2)
   parked i own t2 x = parks_by i own x.service x.inbox t2 x.has x.there x.found x.parks
 
-pub exchanged : {S : Type 0} (way : Way S) (c : Levels S) → IsTwo way c → (i j : ℕ) (old new : Handle) (t2 : Turns) → IsExchange way c.world c.turns i j old new t2 → IsTwo way (record { world = c.world; turns = t2 })
-exchanged way c two i j old new t2 x = fetched way (record { world = c.world; turns = x.mid }) (sent way c two i old x.mid x.puts) j new t2 x.gets
+pub exchanged : {S : Type 0} (way : Way S) (c : Levels S) → IsTwo way c → (i : ℕ) (old new : Handle) (t2 : Turns) → IsExchange way c.world c.turns i old new t2 → IsTwo way (record { world = c.world; turns = t2 })
+exchanged way c two i old new t2 x = fetched way (record { world = c.world; turns = x.mid }) (sent way c two i old x.mid x.puts) i new t2 x.gets
 
 -- one empty hand more
 hand_more : {S : Type 0} (way : Way S) (c : Levels S) → IsTwo way c → IsTwo way (record { world = c.world; turns = with_hand c.turns })
@@ -124,15 +124,15 @@ act_kept way sound lawful c c2 i own what two x = go x.after where
   done : IsTwo way (record { world = c2.world; turns = turns_after c.turns what })
   done = act_two way sound lawful c own what c2.world two (inr (held_is c.turns i own two.placed x.has)) x.acts
 
-  go : ((c2.turns ≡ turns_after c.turns what) ⊎ (c2.turns ≡ with_hand (turns_after c.turns what))) → IsTwo way c2
+  go : ((c2.turns ≡ turns_after c.turns what) ⊎ (IsLaunch what × (c2.turns ≡ with_hand (turns_after c.turns what)))) → IsTwo way c2
   go (inl e) = subst (λ (z : Turns). IsTwo way (record { world = c2.world; turns = z })) (sym e) done
-  go (inr e) = subst (λ (z : Turns). IsTwo way (record { world = c2.world; turns = z })) (sym e) (hand_more way (record { world = c2.world; turns = turns_after c.turns what }) done)
+  go (inr (launch, e)) = subst (λ (z : Turns). IsTwo way (record { world = c2.world; turns = z })) (sym e) (hand_more way (record { world = c2.world; turns = turns_after c.turns what }) done)
 
 step_out : {S : Type 0} (way : Way S) (sound : S → Type 0) → IsLawful way sound → (c : Levels S) (a : Action) (who : List Handle) (c2 : Levels S) → IsTwo way c → IsStep way c a who c2 → Out way c who c2
 step_out way sound lawful c (does.Fetch i) who c2 two x = out_still way c who c2 x.1 x.2 (fetched way c two i x.0 c2.turns x.3)
 step_out way sound lawful c (does.Act i) who c2 two x = out_act way c who c2 x.0 x.1 two x.2 x.3.acts (act_kept way sound lawful c c2 i x.0 x.1 two x.3)
 step_out way sound lawful c (does.Park i) who c2 two x = out_still way c who c2 x.1 x.2 (parked way c two i x.0 c2.turns x.3)
-step_out way sound lawful c (does.Exchange i) who c2 two x = out_still way c who c2 x.2 x.3 (exchanged way c two i i x.0 x.1 c2.turns x.4)
+step_out way sound lawful c (does.Exchange i) who c2 two x = out_still way c who c2 x.2 x.3 (exchanged way c two i x.0 x.1 c2.turns x.4)
 step_out way sound lawful c does.Clock who c2 two x = out_act way c who c2 clock_agent x.0 two x.1 x.2.acts
     (subst (λ (z : Turns). IsTwo way (record { world = c2.world; turns = z })) (sym x.2.after) (act_two way sound lawful c clock_agent x.0 c2.world two (inl refl) x.2.acts))
 

@@ -89,7 +89,7 @@ if_ok (Err e) P Q f p = p
 
 -- an Exchange
 pub exchanges_by : {S : Type 0} (way : Way S) (w : World S) (t t1 t2 : Turns) (i : ℕ) (own : Handle) (p : Option Phase) → ArePlaced t → slice_get t.hands i ≡ Some (Some own) → p ≡ phase way w own → p ≡ Some phases.Idle → (t.queue ≡ [] → ⊥) → t1 ≡ t
-    → (new : Handle) × IsFetch (sent_last t1 i own) i new t2 → (old : Handle) × (new : Handle) × IsExchange way w t i i old new t2
+    → (new : Handle) × IsFetch (sent_last t1 i own) i new t2 → (old : Handle) × (new : Handle) × IsExchange way w t i old new t2
 exchanges_by way w t t1 t2 i own p placed has told idle waits same x =
     let held = held_is t i own placed has in
     let found = phase_idle way w own (at_is t.spots own.0 Hand held).0 (sym told ∙ idle) in (
@@ -104,9 +104,9 @@ exchanges_by way w t t1 t2 i own p placed has told idle waits same x =
     )
 
 pub fit_exchanged : {S : Type 0} (way : Way S) (w : World S) (t t2 : Turns) (i : ℕ) (spent : Bool) → OnFalse spent (IsFit way (record { world = w; turns = t }))
-    → (old : Handle) × (new : Handle) × IsExchange way w t i i old new t2 → OnFalse spent (IsFit way (record { world = w; turns = t2 }))
+    → (old : Handle) × (new : Handle) × IsExchange way w t i old new t2 → OnFalse spent (IsFit way (record { world = w; turns = t2 }))
 fit_exchanged way w t t2 i spent fit x =
-    on_false spent (λ (z : IsFit way (record { world = w; turns = t })). fit_with way w t t2 z (exchanged way (record { world = w; turns = t }) z.two i i x.0 x.1 t2 x.2)) fit
+    on_false spent (λ (z : IsFit way (record { world = w; turns = t })). fit_with way w t t2 z (exchanged way (record { world = w; turns = t }) z.two i x.0 x.1 t2 x.2)) fit
 
 -- a Park
 pub fit_parked : {S : Type 0} (way : Way S) (w : World S) (t t2 : Turns) (i : ℕ) (own : Handle) (spent : Bool) → OnFalse spent (IsFit way (record { world = w; turns = t })) → IsPark way w t i own t2 → OnFalse spent (IsFit way (record { world = w; turns = t2 }))

@@ -8,6 +8,7 @@ use Rattle.message.specs.Worlds.{World, act}
 use Rattle.message.specs.declared.request.Message.{Message}
 use Rattle.message.specs.declared.request.Next.TheVariants.{Idle}
 use Rattle.message.specs.declared.record.What.{What}
+use Rattle.message.specs.declared.record.What.TheVariants as did
 use Rattle.message.specs.declared.place.InboxStatus.{InboxStatus}
 use Rattle.message.specs.declared.place.InboxStatus.TheVariants.{Live, Closing, Gone}
 use Rattle.message.specs.declared.place.InboxState.{InboxState}
@@ -52,24 +53,28 @@ pub record IsRequeue {S : Type 0} (way : Way S) (w : World S) (t : Turns) (i : �
   pub idle : IsIdle way service
   pub after : t2 ≡ sent_last t i own
 
--- The idle turn in hand i goes to the end of the queue, which is not empty, and the first comes into hand j. Most workers have but one
--- hand.
-pub record IsExchange {S : Type 0} (way : Way S) (w : World S) (t : Turns) (i j : ℕ) (old new : Handle) (t2 : Turns) : Type 0 where
+-- the idle turn in hand i goes to the end of the queue, which is not empty, and the first comes into that hand
+pub record IsExchange {S : Type 0} (way : Way S) (w : World S) (t : Turns) (i : ℕ) (old new : Handle) (t2 : Turns) : Type 0 where
   pub mid : Turns
   pub waits : t.queue ≢ []
   pub puts : IsRequeue way w t i old mid
-  pub gets : IsFetch mid j new t2
+  pub gets : IsFetch mid i new t2
 
 -- one empty hand more
 abbrev pub with_hand : Turns → Turns
 with_hand t = record { spots = t.spots; queue = t.queue; hands = t.hands ++ None ∷ [] }
+
+-- a launch that brought a service
+abbrev pub IsLaunch : What → Type 0
+IsLaunch (did.Launch name args (Some h)) = Unit {0}
+IsLaunch _ = ⊥
 
 -- The service own, whose turn is in hand i, does its one next action. Where each service has a hand of its own, one is added for a
 -- service that is launched.
 pub record IsAct {S : Type 0} (way : Way S) (w : World S) (t : Turns) (i : ℕ) (own : Handle) (what : What) (w2 : World S) (t2 : Turns) : Type 0 where
   pub has : slice_get t.hands i ≡ Some (Some own)
   pub acts : act way w own ≡ Some (what, w2)
-  pub after : (t2 ≡ turns_after t what) ⊎ (t2 ≡ with_hand (turns_after t what))
+  pub after : (t2 ≡ turns_after t what) ⊎ (IsLaunch what × (t2 ≡ with_hand (turns_after t what)))
 
 -- agent 0 does its one next action
 pub record IsClock {S : Type 0} (way : Way S) (w : World S) (t : Turns) (what : What) (w2 : World S) (t2 : Turns) : Type 0 where
@@ -81,7 +86,7 @@ abbrev pub IsStep : {S : Type 0} → Way S → Levels S → Action → List Hand
 IsStep way c (does.Fetch i) who c2 = (own : Handle) × (who ≡ []) × (c2.world ≡ c.world) × IsFetch c.turns i own c2.turns
 IsStep way c (does.Act i) who c2 = (own : Handle) × (what : What) × (who ≡ own ∷ []) × IsAct way c.world c.turns i own what c2.world c2.turns
 IsStep way c (does.Park i) who c2 = (own : Handle) × (who ≡ []) × (c2.world ≡ c.world) × IsPark way c.world c.turns i own c2.turns
-IsStep way c (does.Exchange i) who c2 = (old : Handle) × (new : Handle) × (who ≡ []) × (c2.world ≡ c.world) × IsExchange way c.world c.turns i i old new c2.turns
+IsStep way c (does.Exchange i) who c2 = (old : Handle) × (new : Handle) × (who ≡ []) × (c2.world ≡ c.world) × IsExchange way c.world c.turns i old new c2.turns
 IsStep way c does.Clock who c2 = (what : What) × (who ≡ clock_agent ∷ []) × IsClock way c.world c.turns what c2.world c2.turns
 
 -- there is no such step

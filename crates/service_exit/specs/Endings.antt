@@ -1,6 +1,6 @@
 -- How a service ends (skynet.lua, skynet.exit, skynet.kill and init_service): a line for the logger where there is
 -- one, a word to the launcher, a Retire, a Mark.
-use Rattle.std.specs.Prelude.{ℕ, Bool, true, false, if◌then◌else◌, Option, Some, None, List, [], ◌∷◌, ◌++◌, codes}
+use Rattle.std.specs.Prelude.{ℕ, Bool, true, false, if◌then◌else◌, Option, Some, None, List, [], ◌∷◌, ◌++◌, ◌≡◌, ◌⊎◌, codes}
 use Rattle.sk_types.specs.declared.number.Handle.{Handle}
 use Rattle.message.specs.declared.datum.Datum.TheVariants as datum
 use Rattle.message.specs.declared.request.Request.{Request}
@@ -98,3 +98,12 @@ next_request l last = request_at l.own l.exit l.stage last
 
 abbrev pub after_next : Leave → Leave
 after_next l = record { own = l.own; exit = l.exit; stage = next_stage l.stage }
+
+-- Nothing more is asked: nothing was left, or only the Mark of who was not listed, which is spared.
+abbrev pub IsDone : Leave → Option Answer → Type 0
+IsDone l last = (left l ≡ []) ⊎ ((left l ≡ Mark (ended l.own l.exit) ∷ []) × (spares l.exit last ≡ true))
+
+-- What an ending asks is the first of the requests that were left, and those after it are left then.
+abbrev pub Asks : Leave → Option Answer → Option Request → Leave → Type 0
+Asks l last (Some r) l2 = left l ≡ r ∷ left l2
+Asks l last None l2 = IsDone l last × (left l2 ≡ [])

@@ -5,7 +5,7 @@
 
 ghost use Rattle.std.specs.Prelude.{◌≡◌, IfOk, OnOk, OnErr};
 ghost use Rattle.std.specs.Option.{option_copied};
-ghost use Rattle.service_exit.specs.Endings.{ending, next_request, after_next, left, requests, ended, line, report, text_of_line, is_refusal, spares, first_stage, next_stage};
+ghost use Rattle.service_exit.specs.Endings.{ending, next_request, after_next, Asks, left, requests, ended, line, report, text_of_line, is_refusal, spares, first_stage, next_stage};
 ghost use Rattle.service_exit.specs.Words.{to_logger, to_launcher, removal, failure};
 
 use message::{Answer, Body, Datum, Message, Request};
@@ -63,12 +63,14 @@ impl Leave {
 
     /// The next request, `last` being the answer to the one before it; none exactly where no further one follows.
     /// After want of memory all is as before.
+    #[tactic(auto, using(crate::proofs::Order::asks_first))]
     pub fn next(
         &mut self,
         alloc: Global,
         last: Option<&Answer>,
     ) -> Result<Option<Request>, NoMemory>
         ensures request { IfOk result (λ r. r ≡ next_request self.old (option_copied last.entry)) }
+        ensures order { IfOk result (λ r. Asks self.old (option_copied last.entry) r self.new) }
         ensures after { OnOk result (self.new ≡ after_next self.old) }
         ensures err { OnErr result (self.new ≡ self.old) }
     {

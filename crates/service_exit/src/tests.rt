@@ -37,3 +37,19 @@ fn a_kill_of_nobody_marks_nothing(rt: HostRuntime) -> Result<(), Fail> {
     assert!(rt; none.is_none());
     Ok(())
 }
+
+#[test]
+fn own_ending_and_limit_report_and_retire(rt: HostRuntime) -> Result<(), Fail> {
+    let mut own = Leave::new(Handle(7), Exit::Own);
+    let report = own.next(rt.alloc(), None)?;
+    assert!(rt; matches!(&report, Some(Request::Put(to, _)) if to.0 == 2));
+    let text = Bytes::from_slice(rt.alloc(), b"budget spent")?;
+    let mut limit = Leave::new(Handle(7), Exit::Limit(text));
+    let line = limit.next(rt.alloc(), None)?;
+    assert!(rt; matches!(&line, Some(Request::Put(to, _)) if to.0 == 1));
+    let report = limit.next(rt.alloc(), Some(&Answer::Flag(true)))?;
+    assert!(rt; matches!(&report, Some(Request::Put(to, _)) if to.0 == 2));
+    let retire = limit.next(rt.alloc(), Some(&Answer::Flag(true)))?;
+    assert!(rt; matches!(&retire, Some(Request::Retire(handle)) if handle.0 == 7));
+    Ok(())
+}

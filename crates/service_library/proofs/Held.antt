@@ -44,7 +44,7 @@ use Rattle.service_library.specs.declared.words.Resume.TheVariants as go
 use Rattle.service_library.specs.declared.words.Doing.{Doing}
 use Rattle.service_library.specs.declared.words.Doing.TheVariants.{Quiet, Sending, Sent, Calling, Called, Replying, Replied, Given, Sleeping, Asking, Finding, Naming, Seeking, Leaving, Told, Over}
 use Rattle.service_library.specs.State.{Lib}
-use Rattle.service_library.specs.Rows.{Stepped, next, next_failed, next_fork, called, stopped, ends, leaves, with_session, with_alarm, sleeps, blocked_for, is_that, kills, thread_raises, replies, asks, gives, rests, runs, logs, waits, marks_own, alarm, launch, own_response, own_message, kind_of, body_of, after_answer, after_reply, arrives_as, text_arrives, response_arrives, error_arrives, call_fails, brings, why, joins_failed}
+use Rattle.service_library.specs.Rows.{Stepped, thread_ended, next, next_failed, next_fork, called, stopped, ends, leaves, with_session, with_alarm, sleeps, blocked_for, is_that, kills, thread_raises, replies, asks, gives, rests, runs, logs, waits, marks_own, alarm, launch, own_response, own_message, kind_of, body_of, after_answer, after_reply, arrives_as, text_arrives, response_arrives, error_arrives, call_fails, brings, why, joins_failed}
 use Rattle.service_library.specs.Laws.{IsOfThread, held_in, HaveSessions, LeftOut, KeepsHeld, request_of}
 use Rattle.service_library.proofs.Choices.{of_found, of_test}
 
@@ -273,7 +273,7 @@ called_keeps l call.Exit i h = inl (ends_same l exit.Own)
 called_keeps l (call.Log text) i h = inl refl
 
 pub stopped_keeps : (l : Lib) (s : ThreadStop) → HaveSessions (held_in l) → KeepsHeld (held_in l) (stopped l s)
-stopped_keeps l stop.Return h = inl (of_test (Same l) (is_that l.start l.running) _ _ refl (next_same l))
+stopped_keeps l stop.Return h = inl (of_test (Same l) (is_that l.start l.running) _ _ refl (next_same (thread_ended l)))
 stopped_keeps l (stop.Raise text) h =
     of_test (KeepsHeld (held_in l)) (is_that l.start l.running || is_that l.chunk l.running) _ _ (inl (ends_same l (exit.Raised text))) (raises_keeps l text h)
 stopped_keeps l (stop.Limit text) h = inl (ends_same l (exit.Limit text))

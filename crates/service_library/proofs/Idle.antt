@@ -37,7 +37,7 @@ use Rattle.service_library.specs.declared.words.Reason.TheVariants as reason
 use Rattle.service_library.specs.declared.words.Doing.{Doing}
 use Rattle.service_library.specs.declared.words.Doing.TheVariants.{Quiet, Sending, Sent, Calling, Called, Replying, Replied, Given, Sleeping, Asking, Finding, Naming, Seeking, Leaving, Told, Over}
 use Rattle.service_library.specs.State.{Lib}
-use Rattle.service_library.specs.Rows.{Stepped, next, next_failed, next_fork, wakes, called, stopped, ends, leaves, with_session, with_alarm, sleeps, blocked_for, answers_held, is_that, kills, asks, gives, marks_own, ticks_of, waits, alarm, launch, own_response, own_message, kind_of, body_of, after_answer, after_reply, arrives_as, call_fails, brings, why, joins_failed}
+use Rattle.service_library.specs.Rows.{Stepped, thread_ended, next, next_failed, next_fork, wakes, called, stopped, ends, leaves, with_session, with_alarm, sleeps, blocked_for, answers_held, is_that, kills, asks, gives, marks_own, ticks_of, waits, alarm, launch, own_response, own_message, kind_of, body_of, after_answer, after_reply, arrives_as, call_fails, brings, why, joins_failed}
 use Rattle.service_library.specs.Laws.{ready, IsDone, FitsDoing, IsOfThread}
 use Rattle.service_library.proofs.Choices.{of_found, of_test}
 use Rattle.service_library.proofs.Ready.{after_wakeups}
@@ -241,7 +241,7 @@ called_done l call.Exit i = ends_done l exit.Own
 called_done l (call.Log text) i = tt
 
 pub stopped_done : (l : Lib) (s : ThreadStop) → IsDone (stopped l s)
-stopped_done l stop.Return = of_test IsDone (is_that l.start l.running) _ _ tt (next_done l)
+stopped_done l stop.Return = of_test IsDone (is_that l.start l.running) _ _ tt (next_done (thread_ended l))
 stopped_done l (stop.Raise text) =
     of_test IsDone (is_that l.start l.running || is_that l.chunk l.running) _ _ (ends_done l (exit.Raised text))
     (of_found IsDone (owed l.table l.running) _ _ (λ x _. of_test IsDone (nat_eq x.session.0 0) _ _ tt tt) (λ _. tt))

@@ -4,3 +4,4 @@ pub mod Held
 pub mod Together
 pub mod Idle
 pub mod Sleeping
+pub mod Order

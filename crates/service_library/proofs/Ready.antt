@@ -1,5 +1,5 @@
--- A row readies at most one thread more, and a thread that goes on after a stop was ready.
-use Rattle.std.proofs.Common.{◌≡◌, ℕ, suc, ◌+◌, ◌≤◌, Bool, true, false, cond, List, [], ◌∷◌, length, Option, Some, None, nat_eq, ◌||◌, refl, ap, subst, arith, length-append, codes, pos, ℤ}
+-- A row readies at most one thread more.
+use Rattle.std.proofs.Common.{◌≡◌, ℕ, suc, ◌+◌, ◌≤◌, Bool, true, false, cond, List, [], ◌∷◌, length, Option, Some, None, nat_eq, refl, ap, subst, arith, length-append, codes, pos, ℤ}
 use Rattle.std.specs.Prelude.{int_lt, is_some}
 use Rattle.std.specs.Map.{lookup, remove_entry}
 use Rattle.sk_types.specs.declared.number.Session.{Session}
@@ -20,15 +20,22 @@ use Rattle.service_exit.specs.declared.Exit.{Exit}
 use Rattle.service_exit.specs.declared.Exit.TheVariants as exit
 use Rattle.service_library.specs.declared.words.LibCall.{LibCall}
 use Rattle.service_library.specs.declared.words.LibCall.TheVariants as call
-use Rattle.service_library.specs.declared.words.ThreadStop.{ThreadStop}
-use Rattle.service_library.specs.declared.words.ThreadStop.TheVariants as stop
+use Rattle.service_library.specs.declared.words.LibStep.{LibStep}
+use Rattle.service_library.specs.declared.words.LibStep.TheVariants as step
 use Rattle.service_library.specs.declared.words.Reason.{Reason}
 use Rattle.service_library.specs.declared.words.Reason.TheVariants as reason
 use Rattle.service_library.specs.declared.words.Doing.TheVariants.{Given, Calling, Called, Sleeping}
 use Rattle.service_library.specs.State.{Lib}
-use Rattle.service_library.specs.Rows.{Stepped, next, next_failed, next_fork, wakes, called, stopped, ends, with_session, with_alarm, sleeps, blocked_for, answers_held, is_that, kills, fails, thread_raises, asks, waits, alarm, launch, own_response, own_message, kind_of, body_of}
-use Rattle.service_library.specs.Laws.{ready, runs_next, IsOfThread}
+use Rattle.service_library.specs.Rows.{Stepped, next, next_failed, next_fork, wakes, called, ends, with_session, with_alarm, sleeps, blocked_for, answers_held, kills, asks, waits, alarm, launch, own_response, own_message, kind_of, body_of}
+use Rattle.service_library.specs.Laws.{ready, IsOfThread}
 use Rattle.service_library.proofs.Choices.{of_found, of_test}
+
+-- whether a thread runs next
+abbrev runs_next : LibStep → ℕ
+runs_next (step.Resume t how) = 1
+runs_next (step.Raise text) = 1
+runs_next (step.Ask r) = 0
+runs_next step.Idle = 0
 
 -- what a row leaves ready, with a thread that runs next
 abbrev Small : ℕ → Stepped → Type 0
@@ -58,7 +65,7 @@ token_same t None = refl
 token_same t (Some k) = refl
 
 -- a waiter that goes on changes no wakeups
-waiter_same : (t : Table) (s : Session) → (without_waiter t s).wakeups ≡ t.wakeups
+pub waiter_same : (t : Table) (s : Session) → (without_waiter t s).wakeups ≡ t.wakeups
 waiter_same t s =
     of_found (λ (u : Table). u.wakeups ≡ t.wakeups) (lookup (is_session s) t.waits) _ _
     (λ w _. token_same (record t { waits = remove_entry (is_session s) t.waits }) w.token)
@@ -95,9 +102,6 @@ ends_small l (exit.Limit text) = omega arith
 ends_small l (exit.Raised text) = omega arith
 ends_small l (exit.Kill h) = omega arith
 
-fails_small : (l : Lib) (text : List ℕ) (held : Held) → Small (ready l) (fails l text held)
-fails_small l text held = of_test (Small (ready l)) (nat_eq held.session.0 0) _ _ (omega arith) (omega arith)
-
 owed_same : (l : Lib) (t : ThreadNo) → ready (record l { table = without_owed l.table t }) ≡ ready l
 owed_same l t = of_found (λ u. ready (record l { table = u }) ≡ ready l) (owes l.table t) _ _ (λ _ _. refl) (λ _. refl)
 
@@ -106,20 +110,6 @@ answer_same l r = of_found (λ u. ready (record l { table = u }) ≡ ready l) (a
 
 taken_over_same : (l : Lib) (t : ThreadNo) → ready (record l { table = taken_over l.table t }) ≡ ready l
 taken_over_same l t = of_found (λ u. ready (record l { table = u }) ≡ ready l) (owes l.table t) _ _ (λ _ _. refl) (λ _. refl)
-
-raises_small : (l : Lib) (text : List ℕ) → Small (ready l) (thread_raises l text)
-raises_small l text =
-    of_found (Small (ready l)) (owed l.table l.running) _ _
-    (λ held _. let m : Lib = record l { table = without_owed l.table l.running } in
-    subst (λ n. Small n (fails m text held)) (owed_same l l.running) (fails_small m text held))
-    (λ _. omega arith)
-
--- a thread that goes on after a stop was ready
-pub stopped_small : (l : Lib) (s : ThreadStop) → Small (ready l) (stopped l s)
-stopped_small l stop.Return = of_test (Small (ready l)) (is_that l.start l.running) _ _ (omega arith) (next_small l)
-stopped_small l (stop.Raise text) =
-    of_test (Small (ready l)) (is_that l.start l.running || is_that l.chunk l.running) _ _ (ends_small l (exit.Raised text)) (raises_small l text)
-stopped_small l (stop.Limit text) = ends_small l (exit.Limit text)
 
 drawn_same : (l : Lib) → ready (record l { table = after_draw l.table }) ≡ ready l
 drawn_same l = of_test (λ t. ready (record l { table = t }) ≡ ready l) (nat_eq l.table.last last_session) _ _ refl refl

@@ -36,7 +36,7 @@ use Rattle.service_library.specs.declared.words.Reason.TheVariants as reason
 use Rattle.service_library.specs.declared.words.Doing.{Doing}
 use Rattle.service_library.specs.declared.words.Doing.TheVariants.{Quiet, Sending, Sent, Calling, Called, Replying, Replied, Given, Sleeping, Asking, Finding, Naming, Seeking, Leaving, Told, Over}
 use Rattle.service_library.specs.State.{Lib}
-use Rattle.service_library.specs.Rows.{Stepped, next, next_failed, next_fork, called, stopped, ends, leaves, with_session, with_alarm, sleeps, blocked_for, answers_held, is_that, kills, asks, gives, marks_own, ticks_of, waits, alarm, launch, own_response, own_message, no_session, kind_of, body_of, after_answer, after_reply, arrives_as, call_fails, brings, why, joins_failed}
+use Rattle.service_library.specs.Rows.{Stepped, thread_ended, next, next_failed, next_fork, called, stopped, ends, leaves, with_session, with_alarm, sleeps, blocked_for, answers_held, is_that, kills, asks, gives, marks_own, ticks_of, waits, alarm, launch, own_response, own_message, no_session, kind_of, body_of, after_answer, after_reply, arrives_as, call_fails, brings, why, joins_failed}
 use Rattle.service_library.specs.Laws.{letter, IsOrderly}
 use Rattle.service_library.proofs.Choices.{of_found, of_test}
 
@@ -244,7 +244,7 @@ called_orderly l call.Exit = ends_orderly l exit.Own
 called_orderly l (call.Log text) = tt
 
 pub stopped_orderly : (l : Lib) (s : ThreadStop) → IsOrderly (stopped l s)
-stopped_orderly l stop.Return = of_test IsOrderly (is_that l.start l.running) _ _ tt (next_orderly l)
+stopped_orderly l stop.Return = of_test IsOrderly (is_that l.start l.running) _ _ tt (next_orderly (thread_ended l))
 stopped_orderly l (stop.Raise text) =
     of_test IsOrderly (is_that l.start l.running || is_that l.chunk l.running) _ _ (ends_orderly l (exit.Raised text))
     (of_found IsOrderly (owed l.table l.running) _ _ (λ x _. of_test IsOrderly (nat_eq x.session.0 0) _ _ tt tt) (λ _. tt))

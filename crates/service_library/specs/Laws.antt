@@ -1,4 +1,4 @@
--- What holds of every row: how many threads are ready, how a request leaves the held ones, and what stands together. The
+-- What holds of every row: how many threads are ready (Order: which goes on), how a request leaves the held ones, and what stands together. The
 -- laws are this project's own; they are what keeps a service lawful (message: the laws of an actor).
 use Rattle.std.specs.Prelude.{ℕ, ◌≡◌, ◌⊎◌, ◌+◌, ◌==◌, true, false, if◌then◌else◌, Option, Some, None, List, [], ◌∷◌, ◌++◌, length}
 use Rattle.sk_types.specs.declared.number.Handle.{Handle}
@@ -26,13 +26,6 @@ use Rattle.service_library.specs.declared.words.LibCall.TheVariants as call
 -- the threads that were woken, whose call failed, or that were forked
 abbrev pub ready : Lib → ℕ
 ready l = length l.table.wakeups + length l.failed + length l.forks
-
--- whether a thread runs next
-abbrev pub runs_next : LibStep → ℕ
-runs_next (Resume t how) = 1
-runs_next (Raise text) = 1
-runs_next (Ask r) = 0
-runs_next Idle = 0
 
 -- the calls of a thread
 abbrev pub IsOfThread : LibCall → Type 0

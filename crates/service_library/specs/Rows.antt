@@ -22,7 +22,7 @@ use Rattle.message.specs.declared.request.Request.TheVariants as request
 use Rattle.message.specs.declared.request.Answer.{Answer}
 use Rattle.message.specs.declared.request.Answer.TheVariants.{Found, Flag, Clock, Done}
 use Rattle.session_table.specs.Keys.{thread_cmp, is_thread}
-use Rattle.session_table.specs.Table.{drawn, after_draw, waiter, without_waiter, with_waiter, with_owed, owed, without_owed, taken_over, answer_of, without_answer, sleeping, with_sleeper, woken, next_woken, after_wakeup, when_found}
+use Rattle.session_table.specs.Table.{drawn, after_draw, waiter, without_waiter, with_waiter, with_owed, owed, without_owed, without_thread, taken_over, answer_of, without_answer, sleeping, with_sleeper, woken, next_woken, after_wakeup, when_found}
 use Rattle.session_table.specs.declared.words.ThreadNo.{ThreadNo}
 use Rattle.session_table.specs.declared.words.Token.{Token}
 use Rattle.service_exit.specs.Words.{to_logger, to_launcher}
@@ -163,12 +163,16 @@ waits l session thread why =
 abbrev pub calls : Lib → Session → Stepped
 calls l session = next (waits l session l.running reason.Call)
 
+-- the running thread waits under a token
+abbrev pub asleep : Lib → Session → Token → Reason → Lib
+asleep l session token why = blocked_for (record l { table = with_sleeper l.table token session l.running }) l.running why
+
 -- the running thread sleeps under a token, where nobody else does
 abbrev pub sleeps : Lib → Session → Token → Reason → Stepped
 sleeps l session token why =
     if is_some (sleeping l.table token)
     then raises l (codes "token already used")
-    else next (blocked_for (record l { table = with_sleeper l.table token session l.running }) l.running why)
+    else next (asleep l session token why)
 
 -- the ticks of a timer, and the handle that an integer names
 abbrev pub ticks_of : ℤ → ℕ
@@ -356,9 +360,13 @@ thread_raises l text =
     (λ held. fails (record l { table = without_owed l.table l.running }) text held)
     (asks l (logs l text) Told)
 
+-- the running thread has ended
+abbrev pub thread_ended : Lib → Lib
+thread_ended l = record l { table = without_thread l.table l.running }
+
 -- one row for each way in which the running thread stops
 abbrev pub stopped : Lib → ThreadStop → Stepped
-stopped l stop.Return = if is_that l.start l.running then asks l (started l) Told else next l
+stopped l stop.Return = if is_that l.start l.running then asks (thread_ended l) (started l) Told else next (thread_ended l)
 stopped l (stop.Raise text) =
     if is_that l.start l.running || is_that l.chunk l.running
     then ends l (exit.Raised text)

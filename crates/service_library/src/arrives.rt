@@ -128,6 +128,7 @@ impl Library {
     fn returned(&mut self) -> Result<LibStep, NoMemory>
         ensures { Steps result self.new (stopped self.old ThreadStop.Return) }
     {
+        self.sessions.end_thread(self.running);
         if is_that(self.start, self.running) {
             let text = Bytes::from_slice(self.alloc, b"LAUNCHOK")?;
             let body = one(self.alloc, Datum::Text(text))?;

@@ -131,6 +131,11 @@ without_owed t thread =
     (λ o. record t { taken = without_taken t.taken o.0; threads = remove_entry (is_thread thread) t.threads })
     t
 
+-- A thread that ends owes nothing more (skynet.lua, co_create: session_coroutine_id and session_coroutine_address). A
+-- request that it took stays held.
+abbrev pub without_thread : Table → ThreadNo → Table
+without_thread t thread = record t { threads = remove_entry (is_thread thread) t.threads }
+
 -- it passes to a new response function
 abbrev pub passed : Table → ThreadNo → Owed → Table
 passed t thread o =

@@ -20,6 +20,7 @@ enum Call {
         session: u64,
     },
     Ret(u64),
+    End(u64),
     TakeOver(u64),
     Respond(u64),
     Sleep {
@@ -99,6 +100,15 @@ impl Lists {
         }
         self.debts.push(debt)?;
         Ok(Told::Nothing)
+    }
+
+    fn end(&mut self, thread: u64) -> Told {
+        for debt in self.debts.iter_mut() {
+            if debt.owner == Owner::Thread(thread) {
+                debt.owner = Owner::Nobody;
+            }
+        }
+        Told::Nothing
     }
 
     fn settle(&mut self, owner: Owner) -> Told {
@@ -183,6 +193,7 @@ impl Lists {
                 session,
             }),
             Call::Ret(thread) => Ok(self.settle(Owner::Thread(thread))),
+            Call::End(thread) => Ok(self.end(thread)),
             Call::TakeOver(thread) => Ok(self.take_over(thread)),
             Call::Respond(response) => Ok(self.settle(Owner::Response(response))),
             Call::Sleep {
@@ -250,6 +261,10 @@ fn tell(sessions: &mut Sessions, call: Call) -> Result<Told, NoMemory> {
             Ok(held) => Ok(Told::Owed(held.source.0, held.session.0)),
             Err(_) => Ok(Told::Refused),
         },
+        Call::End(thread) => {
+            sessions.end_thread(ThreadNo(thread));
+            Ok(Told::Nothing)
+        }
         Call::TakeOver(thread) => take_over(sessions, thread),
         Call::Respond(response) => match sessions.respond(ResponseNo(response)) {
             Some(held) => Ok(Told::Owed(held.source.0, held.session.0)),
@@ -372,6 +387,9 @@ fn a_request_whose_thread_took_another_stays_held(rt: HostRuntime) -> Result<(),
         Call::Ret(1),
         Call::Ret(1),
         hold(2, 7, 9),
+        Call::End(2),
+        Call::Ret(2),
+        Call::TakeOver(2),
     ];
     assert!(rt; agree(rt.alloc(), &history)?);
     Ok(())

@@ -1,6 +1,6 @@
 ghost use Rattle.std.specs.Prelude.{◌≡◌, [], None, Some, IsSome, IfOk, IfErr, OnOk, OnErr, is_some, not};
 ghost use Rattle.std.specs.List.{list_any};
-ghost use Rattle.session_table.specs.Table.{fresh, drawn, after_draw, waiter, with_waiter, without_waiter, without_sleeper, with_owed, owed, without_owed, taken_over, answers, without_answer, held_of, is_held_as, sleeping, with_sleeper, woken, first_woken, wakeups_left, next_woken, after_wakeup, owes, answer_of, passed, is_take_fault, is_sleep_fault};
+ghost use Rattle.session_table.specs.Table.{fresh, drawn, after_draw, waiter, with_waiter, without_waiter, without_sleeper, with_owed, owed, without_owed, without_thread, taken_over, answers, without_answer, held_of, is_held_as, sleeping, with_sleeper, woken, first_woken, wakeups_left, next_woken, after_wakeup, owes, answer_of, passed, is_take_fault, is_sleep_fault};
 
 use crate::requests::Requests;
 use crate::words::{
@@ -172,6 +172,13 @@ impl Sessions {
                 Some(held) => Some((*owed, held)),
             },
         }
+    }
+
+    /// A thread ends, and owes nothing more. A request that it took stays held.
+    pub fn end_thread(&mut self, ended: ThreadNo)
+        ensures { self.new ≡ without_thread self.old ended }
+    {
+        let _ = self.threads.remove(&ended);
     }
 
     /// What a thread is to answer passes to a new response function. A request stays held.

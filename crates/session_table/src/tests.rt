@@ -48,6 +48,10 @@ fn requests_are_held_until_answered(rt: HostRuntime) -> Result<(), Fail> {
     let first = sessions.ret(ThreadNo(2));
     assert!(rt; matches!(&first, Ok(held) if held.source == Handle(2)));
     assert!(rt; sessions.ret(ThreadNo(2)) == Err(NoSession));
+    sessions.end_thread(ThreadNo(1));
+    sessions.end_thread(ThreadNo(4));
+    assert!(rt; sessions.ret(ThreadNo(1)) == Err(NoSession));
+    assert!(rt; sessions.ret(ThreadNo(4)) == Err(NoSession));
     assert!(rt; sessions.unused(ResponseNo(0)));
     assert!(rt; sessions.holds(Handle(3), Session(7)));
     let held = sessions.held();

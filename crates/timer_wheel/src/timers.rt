@@ -93,13 +93,10 @@ impl Timers {
         ensures { IfOk result (λ d. d ≡ due_at (self.now.now + 1) self.now.timers) }
     {
         let next = self.clock + 1;
-        let mut due = Due::new(alloc);
-        for timer in &self.timers {
-            if timer.at <= next {
-                due.push(timer.handle, timer.session)?;
-            }
+        if next < self.soonest {
+            return Ok(Due::new(alloc));
         }
-        Ok(due)
+        list_due(alloc, &self.timers, next)
     }
 
     /// The clock goes up by one, and the timers that are then due go to the end of the list, in the order of adding.
@@ -131,6 +128,19 @@ fn count_due(timers: &[Timer], now: u64) -> u64
         }
     }
     count
+}
+
+/// Those that are due by now.
+fn list_due(alloc: Global, timers: &[Timer], now: u64) -> Result<Due, NoMemory>
+    ensures { IfOk result (λ d. d ≡ due_at now timers.now) }
+{
+    let mut due = Due::new(alloc);
+    for timer in timers {
+        if timer.at <= now {
+            due.push(timer.handle, timer.session)?;
+        }
+    }
+    Ok(due)
 }
 
 /// Those that are due by now go to the end of the list.
