@@ -25,7 +25,7 @@ stands s = record { waits = refl; holds = refl; way = refl; answered = refl; fai
 abbrev pub some_of : Option CallState → ℕ
 some_of s = in_state is_waiting s + (in_state is_held s + (in_state is_on_its_way s + (in_state is_answered s + (in_state is_failed s + in_state is_void s))))
 
-fate_one : (f : Fate) → is_waiting f + (is_held f + (is_on_its_way f + (is_answered f + (is_failed f + is_void f)))) ≡ 1
+pub fate_one : (f : Fate) → is_waiting f + (is_held f + (is_on_its_way f + (is_answered f + (is_failed f + is_void f)))) ≡ 1
 fate_one Waiting = refl
 fate_one Held = refl
 fate_one OnItsWay = refl

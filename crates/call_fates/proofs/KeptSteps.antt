@@ -11,15 +11,16 @@ use Rattle.message.specs.declared.record.What.TheVariants as did
 use Rattle.call_fates.specs.Calls.{Call, total, sends, replies_in, waiting, held, on_its_way}
 use Rattle.call_fates.specs.Fates.{makes, answers, fails, voids, replying_at}
 use Rattle.call_fates.specs.Flows.{receives, bounces, frees_at, sent, refused, fetched}
-use Rattle.call_fates.specs.Table.{Table, state_at, call_of}
+use Rattle.call_fates.specs.Table.{Table, state_at, call_of, call_to}
 use Rattle.call_fates.specs.Sessions.{IsDrawn}
-use Rattle.call_fates.specs.Kept.{turns_at, fate_by, turned_by, receiver, next_state, Follows, is_waiting, is_held, is_on_its_way, is_answered, is_failed, is_void, in_state, IsKept}
+use Rattle.call_fates.specs.Kept.{turns_at, fate_by, turned_by, receiver, next_state, Follows, is_waiting, is_held, is_on_its_way, is_answered, is_failed, is_void, in_state, HasFate, IsKept}
 use Rattle.call_fates.specs.declared.calls.CallKey.{CallKey}
 use Rattle.call_fates.specs.declared.calls.CallState.{CallState}
 use Rattle.call_fates.specs.declared.calls.Fate.TheVariants.{Waiting}
 use Rattle.call_fates.proofs.Inverts.{Acted}
 use Rattle.call_fates.proofs.Counts.{changes, settled, Turns}
 use Rattle.call_fates.proofs.Journals.{Maker, maker, first_time, now_drawn, drawn_kept, fresh_kept}
+use Rattle.call_fates.proofs.Callees.{same_at}
 use Rattle.call_fates.proofs.Kept.{Stands, Moves, After, call_moves, fate_none}
 
 -- who makes a call takes nothing
@@ -145,11 +146,23 @@ module _ {S : Type 0} (way : Way S) (sound : S → Type 0) (lawful : IsLawful wa
       go (inl z) = old (state_at all q) refl z
       go (inr p) = now_drawn way sound lawful w h r (call_of q) kept.fresh x p
 
+    -- its fate is with the callee that the list names
+    called : (q : CallKey) (s : CallState) → state_at all2 q ≡ Some s → HasFate way (call_to q s.callee) r.1 s.fate
+    called q s is =
+        let same = same_at way sound lawful w h r all all2 kept x after q s is in
+        let now = turned q in
+        record {
+          waits = same.waits ∙ (sym now.waits ∙ ap (in_state is_waiting) is);
+          holds = same.holds ∙ (sym now.holds ∙ ap (in_state is_held) is);
+          under_way = same.under_way ∙ (sym now.way ∙ ap (in_state is_on_its_way) is);
+        }
+
     pub kept_step : IsKept way sound r.1 all2
     kept_step = record {
       fresh = fresh_kept way sound lawful w h r kept.fresh x;
       waits = λ q. sym (turned q).waits;
       holds = λ q. sym (turned q).holds;
       under_way = λ q. sym (turned q).way;
+      at_callee = called;
       drawn = was;
     }

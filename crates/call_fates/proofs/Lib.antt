@@ -9,6 +9,7 @@ pub mod Sessions
 pub mod Journals
 pub mod Table
 pub mod Kept
+pub mod Callees
 pub mod KeptSteps
 pub mod Order
 pub mod Launch

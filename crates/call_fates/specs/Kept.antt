@@ -10,9 +10,9 @@ use Rattle.message.specs.declared.record.What.TheVariants as did
 use Rattle.message.specs.declared.place.Service.{Service}
 use Rattle.message.specs.declared.place.Service.TheVariants.{Serving, Leaving}
 use Rattle.call_fates.specs.Calls.{Call, one_of, all_of, asks, waiting, held, on_its_way}
-use Rattle.call_fates.specs.Fates.{makes, answers, fails, voids, replying_at}
+use Rattle.call_fates.specs.Fates.{Fates, makes, answers, fails, voids, replying_at}
 use Rattle.call_fates.specs.Flows.{receives}
-use Rattle.call_fates.specs.Table.{Table, state_at, with_fate, call_of}
+use Rattle.call_fates.specs.Table.{Table, state_at, with_fate, call_of, call_to}
 use Rattle.call_fates.specs.Sessions.{IsDrawn, IsFresh}
 use Rattle.call_fates.specs.declared.calls.CallKey.{CallKey}
 use Rattle.call_fates.specs.declared.calls.CallState.{CallState}
@@ -106,17 +106,36 @@ is_void Answered = 0
 is_void Failed = 0
 is_void Void = 1
 
+-- this fate once, and no other
+abbrev pub only : Fate → Fates
+only f = record {
+  waiting = is_waiting f;
+  held = is_held f;
+  on_its_way = is_on_its_way f;
+  answered = is_answered f;
+  failed = is_failed f;
+  void = is_void f;
+}
+
 abbrev pub in_state : (Fate → ℕ) → Option CallState → ℕ
 in_state f None = 0
 in_state f (Some s) = f s.fate
 
--- Each call of the list has its fate in the world, and no other; what is not in the list is no call.
+-- the call has this fate in the world, and no other
+pub record HasFate {S : Type 0} (way : Way S) (c : Call) (w : World S) (f : Fate) : Type 0 where
+  pub waits : waiting c w ≡ is_waiting f
+  pub holds : held way c w ≡ is_held f
+  pub under_way : on_its_way way c w ≡ is_on_its_way f
+
+-- Each call of the list has its fate in the world, and no other, whoever was called, and has it at the callee that the list
+-- names: there its request waits, or there it is held, or from there its reply comes. What is not in the list is no call.
 -- Where a call is answered, failed or void, nothing of it is left in the world.
 pub record IsKept {S : Type 0} (way : Way S) (sound : S → Type 0) (w : World S) (all : Table) : Type 0 where
   pub fresh : IsFresh way sound w
   pub waits : (q : CallKey) → waiting (call_of q) w ≡ in_state is_waiting (state_at all q)
   pub holds : (q : CallKey) → held way (call_of q) w ≡ in_state is_held (state_at all q)
   pub under_way : (q : CallKey) → on_its_way way (call_of q) w ≡ in_state is_on_its_way (state_at all q)
+  pub at_callee : (q : CallKey) (s : CallState) → state_at all q ≡ Some s → HasFate way (call_to q s.callee) w s.fate
   pub drawn : (q : CallKey) → IsSome (state_at all q) → IsDrawn way (call_of q) w
 
 -- the list after the acts of a journal

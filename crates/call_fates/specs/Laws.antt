@@ -5,9 +5,10 @@ use Rattle.message.specs.Worlds.{World, after}
 use Rattle.sk_types.specs.declared.number.Handle.{Handle}
 use Rattle.call_fates.specs.Calls.{Call}
 use Rattle.call_fates.specs.Fates.{fates, all_fates, made, taken, answered, failed, void}
-use Rattle.call_fates.specs.Table.{Table, state_at, call_of}
-use Rattle.call_fates.specs.Kept.{IsKept, FollowsAll, in_state, is_answered, is_failed, is_void}
+use Rattle.call_fates.specs.Table.{Table, state_at, call_of, call_to, names}
+use Rattle.call_fates.specs.Kept.{IsKept, FollowsAll, in_state, is_answered, is_failed, is_void, only}
 use Rattle.call_fates.specs.declared.calls.CallKey.{CallKey}
+use Rattle.call_fates.specs.declared.calls.CallState.{CallState}
 use Rattle.call_fates.specs.Reached.{IsOpening}
 
 -- what holds of each call after the journal hs, which leads from w to w2
@@ -31,6 +32,9 @@ pub record TableTells {S : Type 0} (way : Way S) (sound : S → Type 0) (hs : Li
   pub answers : (q : CallKey) → in_state is_answered (state_at all q) ≡ answered way (call_of q) hs w
   pub fails : (q : CallKey) → in_state is_failed (state_at all q) ≡ failed way (call_of q) hs w
   pub voids : (q : CallKey) → in_state is_void (state_at all q) ≡ void way (call_of q) hs w
+  -- each call was made to the callee that the list names, and to no other; and with that callee it has the fate of the list
+  pub callees : (q : CallKey) (d : Handle) → made way (call_to q d) hs w ≡ names d (state_at all q)
+  pub with_callee : (q : CallKey) (s : CallState) → state_at all q ≡ Some s → fates way (call_to q s.callee) hs w w2 ≡ only s.fate
 
 -- a list that was empty in the opening world and has followed each act tells the fates
 abbrev pub TableIsTrue : {S : Type 0} → Way S → (S → Type 0) → Type 0

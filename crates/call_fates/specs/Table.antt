@@ -5,7 +5,7 @@ use Rattle.std.specs.Ordering.{nat_cmp, ordering_then}
 use Rattle.std.specs.Map.{lookup, remove_entry}
 use Rattle.std.specs.BTreeMap.{is_at, insert_entry}
 use Rattle.sk_types.specs.declared.number.Handle.{Handle}
-use Rattle.call_fates.specs.Calls.{Call}
+use Rattle.call_fates.specs.Calls.{Call, one_if}
 use Rattle.call_fates.specs.declared.calls.CallKey.{CallKey}
 use Rattle.call_fates.specs.declared.calls.CallState.{CallState}
 use Rattle.call_fates.specs.declared.calls.Fate.{Fate}
@@ -46,6 +46,15 @@ pub record Sets (all : Table) (k : CallKey) (f : Fate) (all2 : Table) : Type 0 w
 -- the call of this key, whoever was called
 abbrev pub call_of : CallKey → Call
 call_of k = record { caller = k.caller; session = k.session; callee = None }
+
+-- the call of this key to this callee
+abbrev pub call_to : CallKey → Handle → Call
+call_to k d = record { caller = k.caller; session = k.session; callee = Some d }
+
+-- 1 where the list has the call, and this is whom it names as called
+abbrev pub names : Handle → Option CallState → ℕ
+names d None = 0
+names d (Some s) = one_if (s.callee.0 == d.0)
 
 -- each call that is counted has this fate, where it was made; all others stay
 pub record Becomes (f : Fate) (count : Call → ℕ) (all all2 : Table) : Type 0 where

@@ -196,7 +196,7 @@ fn acts<A: Actor + Drop, M: Maker<A>>(
     match world.act(maker, agent) {
         Ok(_) => Ok(true),
         Err(ActError::Fault(_)) => Ok(false),
-        Err(ActError::Memory) => Err(NoMemory),
+        Err(ActError::Memory | ActError::Spent(_)) => Err(NoMemory),
     }
 }
 

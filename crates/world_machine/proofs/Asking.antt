@@ -31,6 +31,7 @@ use Rattle.message.specs.declared.place.Service.TheVariants.{Serving, Leaving}
 use Rattle.message.specs.declared.place.Ending.{Ending}
 use Rattle.world_machine.specs.Spots.{Spots, with_spots, in_registry, in_clock, in_inbox_of, asked_at, Gives}
 use Rattle.world_machine.specs.Serving.{MayGet, answered}
+use Rattle.world_machine.specs.Failing.{IsSpent}
 use Rattle.world_machine.specs.Machines.{DidThis}
 use Rattle.world_machine.specs.Launching.{Hears}
 
@@ -303,6 +304,22 @@ asks_did {A = A} {M = M} way f services p p2 due h r a before next given within 
       let whole : left_by way w h (Serves x) (place_of h (Asks r)) (d.0, info.after) ≡ with_spots (map (service_over f) (slice_set services (h.0 - 1) next)) p2 due =
       info.grows (set_agent (set_place w (place_of h (Asks r)) info.after) h (Serves (service_after way x d.0))) ∙ (sets ∙ (ap (λ l. with_spots l d.1 due) lists ∙ ap (λ q. with_spots (map (service_over f) (slice_set services (h.0 - 1) next)) q due) k.1)) in
       record { done = d; asked = e; answer = k.0; did_it = (acts ∙ ap (λ v. Some (d.0, v)) whole, sym (info.silent h)) }
+
+-- the request was done, whatever comes of its answer
+pub asks_acted : {A M : Type 0} (way : Way M) (f : A → M) (services : List (Service A)) (p p2 : Spots) (due : List (Handle × Session)) (h : Handle) (r : Request) (a : Answer) (before : Service A) (spent : Bool)
+    → 0 < h.0 → h.0 ≤ length services → before ≡ get_or services (h.0 - 1) before → service_ops way (service_over f before) ≡ Asks r ∷ []
+    → Gives (asked_at h r p) a p2 → spent ≡ true → IsSpent way (over f (with_spots services p due)) h None spent
+asks_acted {A = A} {M = M} way f services p p2 due h r a before spent given within is asks gives met = go (asked_at h r p) refl gives where
+  go : (q : Option (What × Spots)) → asked_at h r p ≡ q → Gives q a p2 → IsSpent way (over f (with_spots services p due)) h None spent
+  go None e k = absurd k
+  go (Some d) e k =
+      let all : List (Service M) = map (service_over f) services in
+      let w : World M = with_spots all p due in
+      let x : Service M = service_over f before in
+      let info = is_asked way h r all p due d e in
+      let there : agent w h ≡ Some (Serves x) = agent_serves w h x given (seen (service_over f) services h.0 before given is within) in
+      let acts : act way w h ≡ Some (d.0, left_by way w h (Serves x) (place_of h (Asks r)) (d.0, info.after)) = act_first way w h (Serves x) (Asks r) [] info.state (d.0, info.after) there asks info.found info.can in
+      record { what = d.0; after = left_by way w h (Serves x) (place_of h (Asks r)) (d.0, info.after); acts = acts; line_is = sym (info.silent h); met = met }
 
 -- an answer is heard by its service alone
 pub hears_it : {A M : Type 0} (way : Way M) (f : A → M) (services : List (Service A)) (p : Spots) (due : List (Handle × Session)) (h : Handle) (a : Answer) (before next : Service A)

@@ -1,5 +1,5 @@
 -- An idle service ends, or takes a message, or has no action.
-use Rattle.std.proofs.Common.{◌≡◌, ℕ, ◌<◌, ◌≤◌, ◌-◌, List, [], ◌∷◌, length, map, Option, Some, None, zero, suc, slice_set, get_or, refl, ap, sym, ◌∙◌, subst, arith, length-set}
+use Rattle.std.proofs.Common.{◌≡◌, ℕ, Bool, true, ◌<◌, ◌≤◌, ◌-◌, List, [], ◌∷◌, length, map, Option, Some, None, zero, suc, slice_set, get_or, refl, ap, sym, ◌∙◌, subst, arith, length-set}
 use Rattle.std.proofs.lemmas.Option.{slice_get-get_or}
 use Rattle.std.proofs.lemmas.List.{map-set}
 use Rattle.sk_types.specs.declared.number.Handle.{Handle}
@@ -24,6 +24,7 @@ use Rattle.message.specs.declared.place.Service.TheVariants.{Serving, Leaving}
 use Rattle.world_machine.specs.Spots.{Spots, with_spots}
 use Rattle.world_machine.specs.Serving.{IsIdle, IsNamed, ended, taken}
 use Rattle.world_machine.specs.Okay.{ServiceOk}
+use Rattle.world_machine.specs.Failing.{IsSpent}
 use Rattle.world_machine.specs.Machines.{DidThis}
 use Rattle.world_machine.specs.Idling.{IsLineAhead, LineOf}
 use Rattle.world_machine.proofs.Asking.{at_given, agent_serves, seen}
@@ -105,6 +106,19 @@ module _ {A M : Type 0} (way : Way M) (f : A → M) (services : List (Service A)
       let a = takes way all p due h i given (inbox_there p.inboxes h.0 i given room inbox) (service_over f before) m left i2 (seen (service_over f) services h.0 before given is within) idle e in
       let lists : set_at all h.0 (taken way (service_over f before) m) ≡ map (service_over f) (slice_set services (h.0 - 1) next) = ap (set_at all h.0) (sym now) ∙ sym (map-set (service_over f) services (h.0 - 1) next) in
       (a ∙ ap (λ z. Some (did.Take m left, with_spots z (inboxes_set p h i2) due)) lists, line_taken h i i2 m left l e ahead)
+
+  -- the message was taken, whatever comes of it
+  pub takes_acted : (m : Message) (left : ℕ) (i2 : InboxState) (l : Option (List ℕ)) (spent : Bool) → take_first i.status i.waiting ≡ Some (did.Take m left, i2) → IsLineAhead h i l → spent ≡ true → IsSpent way (over f (with_spots services p due)) h l spent
+  takes_acted m left i2 l spent e ahead met =
+      let all = map (service_over f) services in
+      let x = service_over f before in
+      record {
+        what = did.Take m left;
+        after = with_spots (set_at all h.0 (taken way x m)) (inboxes_set p h i2) due;
+        acts = takes way all p due h i given (inbox_there p.inboxes h.0 i given room inbox) x m left i2 (seen (service_over f) services h.0 before given is within) idle e;
+        line_is = line_taken h i i2 m left l e ahead;
+        met = met;
+      }
 
 -- an inbox is set, and the machine keeps its services
 pub room_kept : (inboxes : List InboxState) (h n : ℕ) (i : InboxState) → n ≡ length inboxes → length (slice_set inboxes h i) ≡ n

@@ -1,5 +1,7 @@
 -- A Launch: the answer is heard once the new service stands.
 use Rattle.std.proofs.Common.{◌≡◌, ℕ, zero, suc, ◌<◌, ◌≤◌, ◌+◌, ◌-◌, nat_lt, Bool, true, false, List, [], ◌∷◌, ◌++◌, length, Option, Some, None, slice_get, slice_set, if◌then◌else◌, refl, ap, sym, ◌∙◌, subst, arith, length-append}
+use Rattle.std.specs.Prelude.{Result, Ok, Err, IfErr}
+use Rattle.std.specs.Result.{IsErrAnd}
 use Rattle.sk_types.specs.declared.number.Handle.{Handle}
 use Rattle.message.specs.Actors.{Way, Fits}
 use Rattle.message.specs.Registries.{Registry, at, set_at, next_handle, register, does_launch, most_handles}
@@ -17,6 +19,7 @@ use Rattle.message.specs.declared.place.Service.{Service}
 use Rattle.message.specs.declared.place.Service.TheVariants.{Serving, Leaving}
 use Rattle.world_machine.specs.Serving.{MayGet, answered}
 use Rattle.world_machine.specs.Standing.{StandsAt}
+use Rattle.world_machine.specs.Failing.{IsSpent}
 use Rattle.world_machine.specs.Machines.{DidThis}
 use Rattle.world_machine.specs.Launching.{Brings, BringsBy, brought, MayHear, Hears}
 use Rattle.world_machine.specs.declared.served.Stage.TheVariants as stage
@@ -115,3 +118,17 @@ launches_did {S = S} way w w2 w3 h name args found at_it b heard = go (made way 
       let grown : grow_by before args (Some s) ≡ set_agent (brought w args s) h (Serves y) = ap G lists in
       let whole : grow_by before args (way.begins name (next_handle w.registry)) ≡ w3 = ap (grow_by before args) begun ∙ (grown ∙ (ap (λ v. set_agent v h (Serves y)) (sym k.1) ∙ sym left)) in
       (did_it ∙ (ap (λ v. Some (did.Launch name args (Some (next_handle w.registry)), v)) whole ∙ ap (λ z. Some (did.Launch name args z, w3)) (sym k.0)), refl)
+
+-- the service was launched, whatever comes of the answer
+pub launches_acted : {S : Type 0} (way : Way S) (w w2 : World S) (h : Handle) (name : List ℕ) (args : List Datum) (found : Option Handle) (spent : Bool)
+    → StandsAt way w h (stage.Asks (ask.Launch name args)) → Brings way w name args found w2 → spent ≡ true → IsSpent way w h None spent
+launches_acted way w w2 h name args found spent at_it b met =
+    let still = still_there way w w2 h at_it.service name args found at_it.given at_it.within at_it.there b in
+    let w3 = set_agent w2 h (Serves (answered way at_it.service (Found found))) in
+    let k = launches_did way w w2 w3 h name args found at_it b (record { service = at_it.service; there = still.1; after = refl }) in
+    record { what = did.Launch name args found; after = w3; acts = k.0; line_is = k.1; met = met }
+
+-- an error that is passed on
+pub err_is : {T E : Type 0} (r : Result T E) (x : E) (P : E → Type 0) → IsErrAnd r (λ y. y ≡ x) → P x → IfErr r P
+err_is (Ok t) x P e k = tt
+err_is (Err y) x P e k = subst P (sym e) k

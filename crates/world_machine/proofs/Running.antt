@@ -17,7 +17,7 @@ use Rattle.world_machine.specs.Failing.{Fails, FailsRun}
 use Rattle.world_machine.specs.Calling.{Goes}
 use Rattle.world_machine.specs.Opening.{first_handle, second_handle, start_handle, Opens}
 use Rattle.world_machine.specs.declared.engine.ActError.{ActError}
-use Rattle.world_machine.specs.declared.engine.ActError.TheVariants.{Fault, Memory}
+use Rattle.world_machine.specs.declared.engine.ActError.TheVariants.{Fault, Memory, Spent}
 
 differ : ◌≡◌ {A = Bool} true false → ⊥
 differ e = cc
@@ -40,8 +40,8 @@ module _ {A M : Type 0} (way : Way M) (sound : M → Type 0) (lawful : IsLawful 
 
   failed_kept : (e : ActError) → Fails way (over f m.world) h m m2 e → OnFalse m2.spent (all2 ≡ all) → Kept m all → m2.spent ≡ false → IsKept way sound (over f m2.world) all2
   failed_kept (Fault e) k same kept left = OnFalse_at left (same_kept k.1 (OnFalse_at left same) kept)
-  failed_kept Memory (inl e) same kept left = OnFalse_at left (same_kept e (OnFalse_at left same) kept)
-  failed_kept Memory (inr spent) same kept left = absurd (differ (sym spent ∙ left))
+  failed_kept Memory e same kept left = OnFalse_at left (same_kept e (OnFalse_at left same) kept)
+  failed_kept (Spent line) k same kept left = absurd (differ (sym k.met ∙ left))
 
   pub act_kept : (r : Result (Option (List ℕ)) ActError) → IfOk r (λ l. Goes way (over f m.world) h l (over f m2.world) all all2) → IfErr r (λ e. Fails way (over f m.world) h m m2 e) → OnErr r (OnFalse m2.spent (all2 ≡ all))
       → (m.spent ≡ true → (r ≡ Err Memory) × (m2 ≡ m) × (all2 ≡ all)) → Kept m all → Kept m2 all2
@@ -63,11 +63,11 @@ module _ {A M : Type 0} (way : Way M) (sound : M → Type 0) (lawful : IsLawful 
     go : (m.spent ≡ true) ⊎ (m.spent ≡ false) → FailsRun way (over f m.world) h (run_of m all) (run_of m2 all2) (Fault e)
     go (inl t) = (k.0, same_run k.1 (spent t).2)
     go (inr t) = (k.0, same_run k.1 (OnFalse_at (ap (λ (v : Machine A). v.spent) k.1 ∙ t) same))
-  failed_run r Memory is (inr spent_now) same spent = inr spent_now
-  failed_run r Memory is (inl e) same spent = go whole where
+  failed_run r (Spent line) is k same spent = record { what = k.what; after = k.after; acts = k.acts; line_is = k.line_is; met = k.met }
+  failed_run r Memory is e same spent = go whole where
     go : (m.spent ≡ true) ⊎ (m.spent ≡ false) → FailsRun way (over f m.world) h (run_of m all) (run_of m2 all2) Memory
-    go (inl t) = inl (same_run e (spent t).2)
-    go (inr t) = inl (same_run e (OnFalse_at (ap (λ (v : Machine A). v.spent) e ∙ t) same))
+    go (inl t) = same_run e (spent t).2
+    go (inr t) = same_run e (OnFalse_at (ap (λ (v : Machine A). v.spent) e ∙ t) same)
 
   pub act_failed : (r : Result (Option (List ℕ)) ActError) → IfErr r (λ e. Fails way (over f m.world) h m m2 e) → OnErr r (OnFalse m2.spent (all2 ≡ all))
       → (m.spent ≡ true → (r ≡ Err Memory) × (m2 ≡ m) × (all2 ≡ all)) → IfErr r (λ e. FailsRun way (over f m.world) h (run_of m all) (run_of m2 all2) e)

@@ -1,5 +1,5 @@
 -- The machine as contracts see it, and its acts (skynet_server.c, with one worker).
-use Rattle.std.specs.Prelude.{ℕ, ◌≡◌, Bool, true, List, Option, Some, length, ◌⊎◌}
+use Rattle.std.specs.Prelude.{ℕ, ◌≡◌, Bool, List, Option, Some, length}
 use Rattle.sk_types.specs.declared.number.Handle.{Handle}
 use Rattle.message.specs.Actors.{Way}
 use Rattle.message.specs.Registries.{at}
@@ -37,7 +37,3 @@ DidThis way w h line w2 what = (act way w h ≡ Some (what, w2)) × (line ≡ li
 -- agent h did its one next action, and this is the line that it wrote, if any
 abbrev pub Did : {S : Type 0} → Way S → World S → Handle → Option (List ℕ) → World S → Type 0
 Did way w h line w2 = (what : What) × (act way w h ≡ Some (what, w2)) × (line ≡ line_of h what)
-
--- want of memory: nothing is done, or the machine is spent
-abbrev pub Halts : {A : Type 0} → Machine A → Machine A → Type 0
-Halts m m2 = (m2 ≡ m) ⊎ (m2.spent ≡ true)

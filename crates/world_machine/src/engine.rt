@@ -45,10 +45,14 @@ const LAST_TICK: u64 = 1_000_000_000;
 pub struct NoAction;
 
 /// Why an act was not done.
-#[derive(Clone, Copy, Debug, PartialEq, Eq)]
+#[derive(Debug, Drop)]
 pub enum ActError {
     Fault(NoAction),
+    /// Nothing was done.
     Memory,
+    /// The agent did its action, with this line, if any; but there was no memory as its service was fed, and the world
+    /// goes on no further.
+    Spent(Option<Bytes>),
 }
 
 impl From<NoMemory> for ActError {
@@ -267,7 +271,7 @@ impl<A: Actor + Drop> Engine<A> {
             Ok(())
         } else {
             self.spent = true;
-            Err(ActError::Memory)
+            Err(ActError::Spent(None))
         }
     }
 
@@ -306,7 +310,7 @@ impl<A: Actor + Drop> Engine<A> {
             Ok(line)
         } else {
             self.spent = true;
-            Err(ActError::Memory)
+            Err(ActError::Spent(line))
         }
     }
 
@@ -317,7 +321,7 @@ impl<A: Actor + Drop> Engine<A> {
         ensures turned { OnOk result (Turns A.way (over A.meaning self.old.world) agent answer_ calls.old calls.new) }
         ensures whole { OnOk result (self.new.spent ≡ self.old.spent) }
         ensures spent { OnErr result (self.new.spent ≡ true) }
-        ensures memory { IfErr result (λ e. e ≡ ActError.Memory) }
+        ensures memory { IfErr result (λ e. e ≡ ActError.Spent None) }
     {
         if answer(
             self.alloc,
@@ -328,7 +332,7 @@ impl<A: Actor + Drop> Engine<A> {
             Ok(())
         } else {
             self.spent = true;
-            Err(ActError::Memory)
+            Err(ActError::Spent(None))
         }
     }
 

@@ -22,7 +22,7 @@ use std::marker::Model;
 
 /// The one-thread message machine: the services and the places of a run, and the list of its calls. While no service has
 /// met want of memory as it was fed, the list is true: each call has its one fate in it, and is found in the world where
-/// that fate says.
+/// that fate says, at the callee that the list names.
 #[derive(Drop)]
 pub struct World<A: Actor + Drop> {
     engine: Engine<A>,
@@ -92,8 +92,8 @@ impl<A: Actor + Drop> World<A> {
         self.engine.is_spent()
     }
 
-    /// The calls that were made, with the fate of each. Each call is found in the world where its fate says, and nowhere
-    /// else; where it is answered, failed or void nothing of it is left.
+    /// The calls that were made, with the fate of each. Each call is found in the world where its fate says, at the callee
+    /// that the list names, and nowhere else; where it is answered, failed or void nothing of it is left.
     pub fn calls(&self) -> &Calls
         ensures list { result.now ≡ self.now.calls }
         ensures kept { OnFalse self.now.spent (IsKept A.way A.sound (over A.meaning self.now.world) self.now.calls) }

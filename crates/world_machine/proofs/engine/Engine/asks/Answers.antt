@@ -1,4 +1,4 @@
-use Rattle.std.proofs.Common.{◌≡◌, ◌<◌, ◌≤◌, ◌-◌, length, subst, sym, ap, ◌∙◌, arith}
+use Rattle.std.proofs.Common.{◌≡◌, ◌<◌, ◌≤◌, ◌-◌, length, subst, sym, ap, ◌∙◌, refl, true, arith}
 use Rattle.std.proofs.lemmas.Bool.{OnFalse_from}
 use Rattle.call_fates.specs.Fates.{replying}
 use Rattle.world_machine.specs.Calling.{call_in, reply_in, is_refusal, IsAbsent, Opens, Settles}
@@ -11,7 +11,7 @@ use Rattle.world_machine.specs.Machines.{Machine}
 use Rattle.world_machine.specs.Standing.{StandsAt}
 use Rattle.world_machine.specs.Spotted.{spots}
 use Rattle.world_machine.specs.declared.served.Stage.TheVariants as stage
-use Rattle.world_machine.proofs.Asking.{may_get, same_service, gives_len, gives_listed}
+use Rattle.world_machine.proofs.Asking.{may_get, asks_acted, same_service, gives_len, gives_listed}
 use Rattle.world_machine.proofs.Keeping.{machine_set}
 use Rattle.world_machine.proofs.engine.Engine.asks.Goals as goal
 
@@ -70,6 +70,20 @@ returns-then-answer-clause-done g c =
     rw (← c.self.view_is) (asks_goes way f w.services.items (spots w.places) (spots c.ask.new.self) w.due.items c.args.agent r c.in-Ok.answer before c.answer.new.service
     c.args.calls.now c.«open».new.calls c.settle.new.calls c.answer.new.calls
     asks.given within c.index_mut.ensures.value ops c.in-Ok.ensures.done c.if-answer.ensures.fed c.requires.absent opened settled2 c.if-answer.ensures.turned)
+
+pub returns-else-answer-clause-undone : goal.returns-else-answer-clause-undone
+returns-else-answer-clause-undone g c =
+    let way = g.A.Actor.way in
+    let f = g.A.Actor.meaning in
+    let w = c.self.inside in
+    let r = c.args.request in
+    let P = λ (v : Machine g.row.A.Denot). StandsAt way (over f v.world) c.args.agent (stage.Asks c.args.request) in
+    let asks = subst P (sym c.self.view_is) c.requires.asks in
+    let within : c.args.agent.0 ≤ length w.services.items = simp length-map at asks.within in
+    let before = c.index_mut.result.now in
+    let same = same_service (service_over f) w.services.items c.args.agent.0 before asks.service asks.given c.index_mut.ensures.value within asks.there in
+    let ops : service_ops way (service_over f before) ≡ _ = ap (service_ops way) same ∙ asks.stands in
+    rw (← c.self.view_is) (asks_acted way f w.services.items (spots w.places) (spots c.ask.new.self) w.due.items c.args.agent r c.in-Ok.answer before true asks.given within c.index_mut.ensures.value ops c.in-Ok.ensures.done refl)
 
 pub returns-in-Err-NoPlace-clause-same : goal.returns-in-Err-NoPlace-clause-same
 returns-in-Err-NoPlace-clause-same g c = OnFalse_from _ _ (λ no_matter. withdrawn c.call_in-call.result c.args.calls.now c.«open».new.calls c.withdraw.new.calls (subst (λ k. IsAbsent k c.args.calls.now) (sym c.call_in-call.ensures) c.requires.absent) c.in_ok-open.ensures.ok c.withdraw.ensures)
