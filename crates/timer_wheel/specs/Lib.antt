@@ -1,1 +1,1 @@
-pub mod Soonest
+pub mod Slots

@@ -1,33 +1,40 @@
 ghost use Rattle.std.specs.Prelude.{◌≡◌, ◌==◌, ◌∷◌, ◌≤◌, ◌<◌, ◌+◌, ◌++◌, [], length, IfOk, OnOk, OnErr};
 ghost use Rattle.std.specs.VecDeque.{deque_len, deque_capacity};
 ghost use Rattle.message.specs.Clocks.{add as add_lem, due_at, ticked, last_tick};
-ghost use Rattle.timer_wheel.specs.Soonest.{NoneBefore};
+ghost use Rattle.timer_wheel.specs.Slots.{first_due, due_first, after_first, after_due};
 
 use message::Timer;
 use sk_types::{Due, Handle, NoMemory, Session};
 use std::alloc::Global;
-use std::collections::VecDeque;
+use std::collections::{BTreeMap, VecDeque};
 use std::marker::Model;
+
+/// The tick at which a timer fires, and its number in the order of adding.
+#[derive(Clone, Copy, Debug, PartialEq, Eq, PartialOrd, Ord)]
+pub struct Slot {
+    pub tick: u64,
+    pub number: u64,
+}
 
 /// The clock, in ticks, and the timers that wait for one of them.
 #[derive(Drop)]
 pub struct Timers {
     clock: u64,
-    timers: Vec<Timer>,
-    /// No timer is due before this tick.
-    soonest: u64,
+    /// How many timers were added so far.
+    added: u64,
+    waiting: BTreeMap<Slot, Timer>,
 }
 
 impl Model for Timers {
     ghost use Rattle.message.specs.Clocks.{Clock, last_tick};
-    ghost use Rattle.timer_wheel.specs.Soonest.{NoneBefore};
+    ghost use Rattle.timer_wheel.specs.Slots.{in_order, IsWheel};
     ghost use Rattle.std.specs.Prelude.{◌≤◌};
 
     ghost Value = { Clock };
 
-    ghost view = { λ t. record { now = t.clock; timers = t.timers.items } };
+    ghost view = { λ t. record { now = t.clock; timers = in_order t.waiting.entries } };
 
-    ghost invariant = { λ t. (t.clock ≤ last_tick) × NoneBefore t.soonest t.timers.items };
+    ghost invariant = { λ t. (t.clock ≤ last_tick) × IsWheel t.clock t.added t.waiting.entries };
 }
 
 impl Timers {
@@ -37,8 +44,8 @@ impl Timers {
     {
         Timers {
             clock: 0,
-            timers: Vec::new(alloc),
-            soonest: u64::MAX,
+            added: 0,
+            waiting: BTreeMap::new(alloc),
         }
     }
 
@@ -53,13 +60,13 @@ impl Timers {
     pub fn len(&self) -> u64
         ensures { result ≡ length self.now.timers }
     {
-        self.timers.len() as u64
+        self.waiting.len() as u64
     }
 
     pub fn is_empty(&self) -> bool
         ensures { result ≡ (length self.now.timers == 0) }
     {
-        self.timers.is_empty()
+        self.waiting.is_empty()
     }
 
     /// Adds a timer that is due so many ticks from now; with 0 ticks it is due at the next one.
@@ -67,13 +74,23 @@ impl Timers {
         ensures ok { OnOk result (self.new ≡ add_lem self.old ticks handle session) }
         ensures err { OnErr result (self.new ≡ self.old) }
     {
+        if self.added == u64::MAX {
+            return Err(NoMemory);
+        }
         let at = self.clock + u64::from(ticks);
-        self.timers.push(Timer {
+        let slot = Slot {
+            tick: at.max(self.clock + 1),
+            number: self.added,
+        };
+        let timer = Timer {
             at,
             handle,
             session,
-        })?;
-        self.soonest = self.soonest.min(at);
+        };
+        let Ok(_) = self.waiting.insert(slot, timer) else {
+            return Err(NoMemory);
+        };
+        self.added += 1;
         Ok(())
     }
 
@@ -81,22 +98,14 @@ impl Timers {
     pub fn next_due(&self) -> u64
         ensures { result ≡ length (due_at (self.now.now + 1) self.now.timers) }
     {
-        let next = self.clock + 1;
-        if next < self.soonest {
-            return 0;
-        }
-        count_due(&self.timers, next)
+        count_due(&self.waiting, self.clock + 1)
     }
 
     /// The timers that are due at the next tick, in the order of adding.
     pub fn due(&self, alloc: Global) -> Result<Due, NoMemory>
         ensures { IfOk result (λ d. d ≡ due_at (self.now.now + 1) self.now.timers) }
     {
-        let next = self.clock + 1;
-        if next < self.soonest {
-            return Ok(Due::new(alloc));
-        }
-        list_due(alloc, &self.timers, next)
+        list_due(alloc, &self.waiting, self.clock + 1)
     }
 
     /// The clock goes up by one, and the timers that are then due go to the end of the list, in the order of adding.
@@ -108,60 +117,63 @@ impl Timers {
     {
         let now = self.clock + 1;
         self.clock = now;
-        if now < self.soonest {
-            return;
-        }
-        send_due(&self.timers, now, out);
-        self.timers.retain(|t| !(t.at <= now));
-        self.soonest = first_tick(&self.timers);
+        send_due(&mut self.waiting, now, out);
     }
 }
 
-/// How many are due by now.
-fn count_due(timers: &[Timer], now: u64) -> u64
-    ensures { result ≡ length (due_at now timers.now) }
+/// How many at the front are due by now.
+fn count_due(waiting: &BTreeMap<Slot, Timer>, now: u64) -> u64
+    ensures { result ≡ length (due_first now waiting.now.entries) }
 {
     let mut count = 0;
-    for timer in timers {
-        if timer.at <= now {
-            count += 1;
+    for (slot, _timer) in waiting {
+        if now < slot.tick {
+            return count;
         }
+        count += 1;
     }
     count
 }
 
-/// Those that are due by now.
-fn list_due(alloc: Global, timers: &[Timer], now: u64) -> Result<Due, NoMemory>
-    ensures { IfOk result (λ d. d ≡ due_at now timers.now) }
+/// Those at the front that are due by now.
+fn list_due(alloc: Global, waiting: &BTreeMap<Slot, Timer>, now: u64) -> Result<Due, NoMemory>
+    ensures { IfOk result (λ d. d ≡ due_first now waiting.now.entries) }
 {
     let mut due = Due::new(alloc);
-    for timer in timers {
-        if timer.at <= now {
-            due.push(timer.handle, timer.session)?;
+    for (slot, timer) in waiting {
+        if now < slot.tick {
+            return Ok(due);
         }
+        due.push(timer.handle, timer.session)?;
     }
     Ok(due)
 }
 
-/// Those that are due by now go to the end of the list.
-fn send_due(timers: &[Timer], now: u64, out: &mut VecDeque<(Handle, Session)>)
-    requires room { deque_len out.old + length (due_at now timers.now) ≤ deque_capacity out.old }
-    ensures { out.new.items ≡ out.old.items ++ due_at now timers.now }
+/// Those at the front that are due by now go to the end of the list.
+fn send_due(waiting: &mut BTreeMap<Slot, Timer>, now: u64, out: &mut VecDeque<(Handle, Session)>)
+    requires room { deque_len out.old + length (due_first now waiting.old.entries) ≤ deque_capacity out.old }
+    ensures due { out.new.items ≡ out.old.items ++ due_first now waiting.old.entries }
+    ensures left { waiting.new.entries ≡ after_due now waiting.old.entries }
 {
-    for timer in timers {
-        if timer.at <= now {
-            out.push_back_reserved((timer.handle, timer.session));
-        }
+    while let Some(timer) = take_due(waiting, now) {
+        out.push_back_reserved((timer.handle, timer.session));
     }
 }
 
-/// The first tick at which one of them can be due.
-fn first_tick(timers: &[Timer]) -> u64
-    ensures { NoneBefore result timers.now }
+/// The first, where it is due by now.
+fn take_due(waiting: &mut BTreeMap<Slot, Timer>, now: u64) -> Option<Timer>
+    ensures due { result ≡ first_due now waiting.old.entries }
+    ensures left { waiting.new.entries ≡ after_first now waiting.old.entries }
 {
-    let mut first = u64::MAX;
-    for timer in timers {
-        first = first.min(timer.at);
+    let first = match waiting.first_key_value() {
+        Some((slot, _timer)) => slot.tick,
+        None => return None,
+    };
+    if now < first {
+        return None;
     }
-    first
+    match waiting.pop_first() {
+        Some((_slot, timer)) => Some(timer),
+        None => None,
+    }
 }

@@ -1,6 +1,6 @@
-use Rattle.std.proofs.Common.{◌≡◌, ◌≤◌, ◌+◌, length, drop}
-use Rattle.message.specs.Clocks.{due_at}
+use Rattle.std.proofs.Common.{◌≡◌, ◌+◌, length}
+use Rattle.timer_wheel.specs.Slots.{due_first}
 use Rattle.timer_wheel.proofs.timers.count_due.Given as goal
 
-abbrev pub invariant-loop-timer : goal.invariant-loop-timer
-invariant-loop-timer l = (l.count + length (due_at l.now (drop l.timer-index l.timers)) ≡ length (due_at l.now l.timers)) × (l.count ≤ l.timer-index)
+abbrev pub invariant-loop-slot : goal.invariant-loop-slot
+invariant-loop-slot l = (l.count + length (due_first l.now l.slot-iterator) ≡ length (due_first l.now l.waiting.entries)) × (l.count + length l.slot-iterator ≡ length l.waiting.entries)

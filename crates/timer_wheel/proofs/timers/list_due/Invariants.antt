@@ -1,6 +1,6 @@
-use Rattle.std.proofs.Common.{◌≡◌, ◌++◌, drop}
-use Rattle.message.specs.Clocks.{due_at}
+use Rattle.std.proofs.Common.{◌≡◌, ◌++◌}
+use Rattle.timer_wheel.specs.Slots.{due_first}
 use Rattle.timer_wheel.proofs.timers.list_due.Given as goal
 
-abbrev pub invariant-loop-timer : goal.invariant-loop-timer
-invariant-loop-timer l = l.due ++ due_at l.now (drop l.timer-index l.timers) ≡ due_at l.now l.timers
+abbrev pub invariant-loop-slot : goal.invariant-loop-slot
+invariant-loop-slot l = l.due ++ due_first l.now l.slot-iterator ≡ due_first l.now l.waiting.entries

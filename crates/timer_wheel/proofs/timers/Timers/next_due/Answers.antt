@@ -1,8 +1,8 @@
-use Rattle.std.proofs.Common.{ap, sym, length}
-use Rattle.timer_wheel.proofs.Falling.{none_due}
+use Rattle.std.proofs.Common.{ap, sym, ◌∙◌, length}
+use Rattle.timer_wheel.proofs.Falling.{falls}
 use Rattle.timer_wheel.proofs.timers.Timers.next_due.Goals as goal
 
-pub returns-then-next-self : goal.returns-then-next-self
-returns-then-next-self c =
+pub returns : goal.returns
+returns c =
     let t = c.self.inside in
-    rw (← c.self.view_is) (sym (ap length (none_due _ t.soonest t.timers.items c.self.invariant.1 c.if-next-self.true)))
+    rw (← c.self.view_is) (c.count_due.ensures ∙ sym (ap length (falls t.clock t.added t.waiting.entries c.self.invariant.1)))
