@@ -1,12 +1,6 @@
-use itoa::Buffer;
 use message::{Body, Datum};
 use sk_types::Bytes;
 use std::alloc::{AllocError, Global};
-
-fn add_integer(text: &mut String, n: i64) -> Result<(), AllocError> {
-    let mut buffer = Buffer::new();
-    text.push_str(buffer.format(n))
-}
 
 /// The text of bytes, with decimal escapes for those that are not printed as they are.
 pub fn text_of(alloc: Global, bytes: &Bytes) -> Result<String, AllocError> {
@@ -19,10 +13,7 @@ fn add_bytes(text: &mut String, bytes: &[u8]) -> Result<(), AllocError> {
     for byte in bytes {
         match *byte {
             printed @ 32..=126 => text.push(char::from(printed))?,
-            other => {
-                text.push('\\')?;
-                add_integer(text, i64::from(other))?;
-            }
+            other => write!(text, "\\{other}")?,
         }
     }
     Ok(())
@@ -33,7 +24,7 @@ fn add_datum(text: &mut String, datum: &Datum) -> Result<(), AllocError> {
         Datum::Nil => text.push_str("nil"),
         Datum::Bool(true) => text.push_str("true"),
         Datum::Bool(false) => text.push_str("false"),
-        Datum::Int(n) => add_integer(text, *n),
+        Datum::Int(n) => write!(text, "{n}"),
         Datum::Text(bytes) => {
             text.push('"')?;
             add_bytes(text, bytes.as_slice())?;
