@@ -11,7 +11,7 @@ pub fn of_step(alloc: Global, step: &LibStep) -> Result<String, AllocError> {
         LibStep::Ask(request) => of_request(alloc, request),
         LibStep::Resume(thread, how) => of_resume(alloc, *thread, how),
         LibStep::Raise(text) => {
-            let text = text_of(alloc, text)?;
+            let text = text_of(text);
             format!(in alloc; "raises \"{text}\"")
         }
         LibStep::Idle => String::from_str(alloc, "idle"),
@@ -45,7 +45,7 @@ fn of_resume(alloc: Global, thread: ThreadNo, how: &Resume) -> Result<String, Al
             format!(in alloc; "thread {thread} gets response function {}", response.0)
         }
         Resume::Fail(text) => {
-            let text = text_of(alloc, text)?;
+            let text = text_of(text);
             format!(in alloc; "thread {thread} raises \"{text}\"")
         }
     }
@@ -57,12 +57,12 @@ pub fn of_request(alloc: Global, request: &Request) -> Result<String, AllocError
         Request::Look(dest) => of_look(alloc, dest),
         Request::Put(to, message) => of_put(alloc, *to, message),
         Request::Launch(name, args) => {
-            let name = text_of(alloc, name)?;
+            let name = text_of(name);
             let values = values(alloc, args)?;
             format!(in alloc; "Launch {name} {values}")
         }
         Request::Name(name, handle) => {
-            let name = text_of(alloc, name)?;
+            let name = text_of(name);
             format!(in alloc; "Name {name} for {}", handle.0)
         }
         Request::Retire(handle) => format!(in alloc; "Retire {}", handle.0),
@@ -78,7 +78,7 @@ fn of_look(alloc: Global, dest: &Dest) -> Result<String, AllocError> {
     match dest {
         Dest::Number(n) => format!(in alloc; "Look {n}"),
         Dest::Name(name) => {
-            let name = text_of(alloc, name)?;
+            let name = text_of(name);
             format!(in alloc; "Look {name}")
         }
     }

@@ -1,22 +1,11 @@
 use message::{Body, Datum};
 use sk_types::Bytes;
 use std::alloc::{AllocError, Global};
+use std::str;
 
-/// The text of bytes, with decimal escapes for those that are not printed as they are.
-pub fn text_of(alloc: Global, bytes: &Bytes) -> Result<String, AllocError> {
-    let mut text = String::new(alloc);
-    add_bytes(&mut text, bytes.as_slice())?;
-    Ok(text)
-}
-
-fn add_bytes(text: &mut String, bytes: &[u8]) -> Result<(), AllocError> {
-    for byte in bytes {
-        match *byte {
-            printed @ 32..=126 => text.push(char::from(printed))?,
-            other => write!(text, "\\{other}")?,
-        }
-    }
-    Ok(())
+/// Bytes as the text that they are in a table of histories.
+pub fn text_of(bytes: &Bytes) -> &str {
+    str::from_utf8(bytes.as_slice()).unwrap_or("?")
 }
 
 fn add_datum(text: &mut String, datum: &Datum) -> Result<(), AllocError> {
@@ -26,9 +15,8 @@ fn add_datum(text: &mut String, datum: &Datum) -> Result<(), AllocError> {
         Datum::Bool(false) => text.push_str("false"),
         Datum::Int(n) => write!(text, "{n}"),
         Datum::Text(bytes) => {
-            text.push('"')?;
-            add_bytes(text, bytes.as_slice())?;
-            text.push('"')
+            let quoted = text_of(bytes);
+            write!(text, "\"{quoted}\"")
         }
         Datum::Table(_) => text.push_str("table"),
     }
