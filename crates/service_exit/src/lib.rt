@@ -220,6 +220,3 @@ fn failure(alloc: Global, own: Handle) -> Result<Request, NoMemory>
     body.push(Datum::Text(name))?;
     Ok(to_launcher(own, body))
 }
-
-#[cfg(test)]
-mod tests;

@@ -15,6 +15,3 @@ pub use laws::{
 };
 pub use library::Library;
 pub use words::{AfterReply, Doing, LibCall, LibStep, Reason, Resume, ThreadStop};
-
-#[cfg(test)]
-mod tests;
