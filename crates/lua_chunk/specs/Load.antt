@@ -9,7 +9,7 @@ use Rattle.lua_value.specs.declared.value.Value.{Value}
 use Rattle.lua_meaning.specs.State.{State}
 use Rattle.lua_meaning.specs.Until.{given, opening}
 use Rattle.lua_code.specs.Valid.{IsValid}
-use Rattle.lua_steps.specs.Machine.{Code, Machine}
+use Rattle.lua_steps.specs.Machine.{Code}
 use Rattle.lua_steps.specs.Serves.{Serves}
 use Rattle.lua_compile.specs.HasCode.{HasCode}
 use Rattle.lua_follow.specs.Stands.{Waits}
