@@ -1,4 +1,4 @@
 pub mod Firsts
 pub mod Holding
-pub mod Listing
+pub mod Listed
 pub mod Sender

@@ -7,6 +7,7 @@ mod laws;
 mod order;
 mod replies;
 mod requests;
+mod services;
 
 pub use launcher::Launcher;
 pub use laws::law_sender_is_served;
