@@ -15,7 +15,7 @@ use Rattle.launcher.specs.declared.desk.Service.{Service}
 use Rattle.launcher.specs.Rows.{without, is_service, entry}
 use Rattle.launcher.specs.Listed.{services_in, AllBelow}
 
-abbrev handle_cmp : Handle → Handle → Ordering
+abbrev pub handle_cmp : Handle → Handle → Ordering
 handle_cmp a b = nat_cmp a.0 b.0
 
 -- a service of a greater handle is the last
@@ -24,7 +24,7 @@ listed_last h name [] b = refl
 listed_last h name (e ∷ es) b =
     subst (λ o. services_in (match_ordering o ((h, name) ∷ e ∷ es) ((e.0, name) ∷ es) (e ∷ insert_entry handle_cmp es h name)) ≡ services_in (e ∷ es) ++ record { handle = h; name = name } ∷ []) (nat_cmp_is h.0 e.0.0 Greater b.0) (ap (λ (l : List Service). record { handle = e.0; name = e.1 } ∷ l) (listed_last h name es b.1))
 
-same_test : (a b : ℕ) → is_eq (nat_cmp a b) ≡ (b == a)
+pub same_test : (a b : ℕ) → is_eq (nat_cmp a b) ≡ (b == a)
 same_test a b = grind (arith, nat_tests)
 
 removed_head : (h : Handle) (v : List ℕ) (e : Handle × List ℕ) (es : List (Handle × List ℕ)) (late : List Service) (b : Bool) → cond b (Some e.1) (lookup (is_at (handle_cmp h)) es) ≡ Some v → (lookup (is_at (handle_cmp h)) es ≡ Some v → services_in (remove_entry (is_at (handle_cmp h)) es) ++ late ≡ without (is_service h) (services_in es ++ late)) → services_in (cond b es (e ∷ remove_entry (is_at (handle_cmp h)) es)) ++ late ≡ cond b (services_in es ++ late) (record { handle = e.0; name = e.1 } ∷ without (is_service h) (services_in es ++ late))
@@ -56,13 +56,9 @@ pushed h name es late none b =
 not_above : (a b c : ℕ) → is_lt (nat_cmp a b) ≡ false → a < c → b < c
 not_above a b c h l = grind (arith, nat_tests)
 
-pub below_last : (last h : Handle) (es : List (Handle × List ℕ)) → All (λ q. is_lt (handle_cmp last q) ≡ false) (keys_of es) → last.0 < h.0 → AllBelow h es
+pub below_last : {X : Type 0} (last h : Handle) (es : List (Handle × X)) → All (λ q. is_lt (handle_cmp last q) ≡ false) (keys_of es) → last.0 < h.0 → AllBelow h es
 below_last last h [] a l = tt
 below_last last h (e ∷ es) a l = (not_above last.0 e.0.0 h.0 (a 0 e.0 (omega arith)) l, below_last last h es (λ k d i. a (suc k) d (omega (arith, i))) l)
-
-pub below_none : (h : Handle) (es : List (Handle × List ℕ)) → length es ≡ 0 → AllBelow h es
-below_none h [] e = tt
-below_none h (x ∷ es) e = absurd (omega (arith, e))
 
 -- ENTRIES
 

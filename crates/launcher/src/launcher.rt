@@ -197,7 +197,7 @@ impl Launcher {
         ensures { OnOk result (self.new ≡ launched self.old name handle) }
     {
         self.services.push(Service { handle, name })?;
-        self.requests.pends(handle);
+        self.requests.pends(handle)?;
         self.doing = Doing::Quiet;
         Ok(())
     }
