@@ -1,7 +1,7 @@
 -- The services by their handles, as a list.
 use Rattle.std.proofs.Common.{◌≡◌, ℕ, suc, ◌<◌, Bool, true, false, cond, List, [], ◌∷◌, ◌++◌, ◌+◌, length, map, take, get_or, Some, None, refl, sym, ap, subst, ◌∙◌, arith}
 use Rattle.std.specs.declared.cmp.Ordering.{Ordering}
-use Rattle.std.specs.declared.cmp.Ordering.TheVariants.{Less, Equal, Greater}
+use Rattle.std.specs.declared.cmp.Ordering.TheVariants.{Greater}
 use Rattle.std.specs.Ordering.{nat_cmp, match_ordering, is_eq, is_lt}
 use Rattle.std.specs.Cmp.{nat_cmp_is}
 use Rattle.std.specs.Prelude.{◌==◌, All}

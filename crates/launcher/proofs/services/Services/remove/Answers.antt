@@ -1,6 +1,4 @@
-use Rattle.std.proofs.Common.{sym, ap, ◌++◌, List, ◌∙◌}
-use Rattle.launcher.specs.declared.desk.Service.{Service}
-use Rattle.launcher.specs.Listed.{services_in}
+use Rattle.std.proofs.Common.{sym, ◌∙◌}
 use Rattle.launcher.proofs.Listed.{removed, missed}
 use Rattle.launcher.proofs.services.Services.remove.Goals as goal
 
