@@ -2,6 +2,7 @@
 #![tactic(auto)]
 
 mod desk;
+mod handles;
 mod launcher;
 mod laws;
 mod order;

@@ -6,6 +6,7 @@ ghost use Rattle.launcher.specs.Listed.{pending_in, AllBelow, StartsServed};
 ghost use Rattle.launcher.specs.declared.desk.Role.TheVariants.{Pending};
 
 use crate::desk::{Role, Taken};
+use crate::handles::is_last;
 use message::{Held, HeldList};
 use sk_types::{Handle, NoMemory, Session};
 use std::alloc::Global;
@@ -202,15 +203,6 @@ fn comes_last(pending: &BTreeMap<Handle, Held>, others: &[Taken], handle: Handle
         return None;
     }
     first_served(others)
-}
-
-fn is_last(pending: &BTreeMap<Handle, Held>, handle: Handle) -> bool
-    ensures { IsTrue result → AllBelow handle pending.now.entries }
-{
-    match pending.last_key_value() {
-        Some((last, _held)) => last.0 < handle.0,
-        None => true,
-    }
 }
 
 fn first_served(others: &[Taken]) -> Option<Held>

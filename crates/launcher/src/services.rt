@@ -3,6 +3,7 @@ ghost use Rattle.launcher.specs.Rows.{without, is_service, entry};
 ghost use Rattle.launcher.specs.Listed.{services_in, AllBelow};
 
 use crate::desk::Service;
+use crate::handles::is_last;
 use crate::replies::entry;
 use message::Pairs;
 use sk_types::{Bytes, Handle, NoMemory};
@@ -81,10 +82,7 @@ fn comes_last(by_handle: &BTreeMap<Handle, Bytes>, late: &[Service], handle: Han
     if !late.is_empty() {
         return false;
     }
-    match by_handle.last_key_value() {
-        Some((last, _name)) => last.0 < handle.0,
-        None => true,
-    }
+    is_last(by_handle, handle)
 }
 
 fn entries_by_handle(alloc: Global, by_handle: &BTreeMap<Handle, Bytes>) -> Result<Pairs, NoMemory>
