@@ -1,4 +1,5 @@
 pub mod Firsts
 pub mod Holding
-pub mod Listing
+pub mod Listed
+pub mod Pending
 pub mod Sender

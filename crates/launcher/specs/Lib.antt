@@ -1,4 +1,5 @@
+pub mod Laws
+pub mod Listed
 pub mod Orders
 pub mod Rows
 pub mod Served
-pub mod Laws

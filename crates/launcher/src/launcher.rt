@@ -1,6 +1,6 @@
-ghost use Rattle.std.specs.Prelude.{◌≡◌, ◌++◌, IfOk, OnOk, None, find, position};
+ghost use Rattle.std.specs.Prelude.{◌≡◌, ◌++◌, IfOk, OnOk, None, find};
 ghost use Rattle.message.specs.Actors.{Begins};
-ghost use Rattle.launcher.specs.Rows.{Desk, opened, fed, next_of, heard, heard_order, taken, role_of, serves, settles, answers, killed, told, launched, after_reply, unlisted, without, is_service, reply_of_removal, launcher as launcher_lem};
+ghost use Rattle.launcher.specs.Rows.{Desk, opened, fed, next_of, heard, heard_order, taken, role_of, serves, settles, answers, killed, told, launched, after_reply, unlisted, reply_of_removal, launcher as launcher_lem};
 ghost use Rattle.launcher.specs.declared.desk.Doing.TheVariants as doing;
 ghost use Rattle.launcher.specs.Laws.{launcher_way, launcher_sound};
 
@@ -8,6 +8,7 @@ use crate::desk::{AfterReply, Doing, Reply, Role, Service, Taken};
 use crate::order::{Order, order_of};
 use crate::replies::{answer, line};
 use crate::requests::Requests;
+use crate::services::Services;
 use message::{Actor, Answer, Body, Dest, Held, HeldList, Input, Message, Next, Request};
 use sk_types::{Bytes, Handle, Kind, NoMemory, Session};
 use std::alloc::Global;
@@ -18,7 +19,7 @@ use std::mem;
 #[derive(Drop)]
 pub struct Launcher {
     alloc: Global,
-    services: Vec<Service>,
+    services: Services,
     requests: Requests,
     doing: Doing,
 }
@@ -32,7 +33,7 @@ impl Model for Launcher {
 
     ghost coded = { Prim.hlevel (codes, datum_contract.the_row.coded) };
 
-    ghost view = { λ l. record { services = l.services.items; requests = l.requests; doing = l.doing } };
+    ghost view = { λ l. record { services = l.services; requests = l.requests; doing = l.doing } };
 }
 
 impl Launcher {
@@ -41,7 +42,7 @@ impl Launcher {
         ensures opened { IfOk result (λ l. l ≡ opened start.now) }
         ensures begins { IfOk result (λ l. Begins launcher_way launcher_sound launcher_lem l) }
     {
-        let mut services = Vec::new(alloc);
+        let mut services = Services::new(alloc);
         services.push(Service {
             handle: Handle(3),
             name: start.copy(alloc)?,
@@ -138,7 +139,7 @@ impl Launcher {
     fn unlists(&mut self, handle: Handle)
         ensures { self.new ≡ unlisted self.old handle }
     {
-        take_service(&mut self.services, handle);
+        self.services.remove(handle);
     }
 
     /// The message that is served is answered, where it wants an answer.
@@ -196,7 +197,7 @@ impl Launcher {
         ensures { OnOk result (self.new ≡ launched self.old name handle) }
     {
         self.services.push(Service { handle, name })?;
-        self.requests.pends(handle);
+        self.requests.pends(handle)?;
         self.doing = Doing::Quiet;
         Ok(())
     }
@@ -307,19 +308,4 @@ fn reply_of_removal(killed: bool) -> Reply
     ensures { result ≡ reply_of_removal killed }
 {
     if killed { Reply::Failed } else { Reply::Ended }
-}
-
-fn place_of_service(services: &[Service], handle: Handle) -> Option<usize>
-    ensures { result ≡ position (is_service handle) services.now }
-{
-    services.iter().position(|s| s.handle.0 == handle.0)
-}
-
-#[tactic(auto, using(crate::proofs::Firsts::first_taken))]
-fn take_service(services: &mut Vec<Service>, handle: Handle)
-    ensures { services.new.items ≡ without (is_service handle) services.old.items }
-{
-    if let Some(at) = place_of_service(services, handle) {
-        let _ = services.remove(at);
-    }
 }

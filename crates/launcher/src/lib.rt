@@ -2,11 +2,13 @@
 #![tactic(auto)]
 
 mod desk;
+mod handles;
 mod launcher;
 mod laws;
 mod order;
 mod replies;
 mod requests;
+mod services;
 
 pub use launcher::Launcher;
 pub use laws::law_sender_is_served;

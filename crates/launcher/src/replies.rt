@@ -1,12 +1,12 @@
-ghost use Rattle.std.specs.Prelude.{◌≡◌, ◌∷◌, ◌++◌, [], IfOk, OnOk, map, codes};
+ghost use Rattle.std.specs.Prelude.{◌≡◌, ◌∷◌, ◌++◌, [], IfOk, OnOk, codes};
 ghost use Rattle.message.specs.declared.datum.Datum.TheVariants as datum;
 ghost use Rattle.launcher.specs.Rows.{address, entry, kind_of, body_of, answer, line, launcher};
 
-use crate::desk::{Reply, Service};
+use crate::desk::Reply;
+use crate::services::Services;
 use logger::push_hex;
-use message::{Body, Datum, Held, Message, Pairs};
+use message::{Body, Datum, Held, Message};
 use sk_types::{Bytes, Handle, Kind, NoMemory, Session};
-use sqlite_items::Items;
 use std::alloc::Global;
 
 /// The handle of the launcher.
@@ -15,7 +15,7 @@ pub const LAUNCHER: Handle = Handle(2);
 /// What a caller is answered.
 pub fn answer(
     alloc: Global,
-    services: &[Service],
+    services: &Services,
     held: Held,
     reply: Reply,
 ) -> Result<Message, NoMemory>
@@ -39,7 +39,7 @@ fn kind_of(reply: Reply) -> Kind
     }
 }
 
-fn body_of(alloc: Global, services: &[Service], reply: Reply) -> Result<Body, NoMemory>
+fn body_of(alloc: Global, services: &Services, reply: Reply) -> Result<Body, NoMemory>
     ensures { IfOk result (λ b. b ≡ body_of services.now reply) }
 {
     match reply {
@@ -47,7 +47,7 @@ fn body_of(alloc: Global, services: &[Service], reply: Reply) -> Result<Body, No
         Reply::Launched(handle) => one(alloc, Datum::Int(i64::from(handle.0))),
         Reply::Killed(retired) => one(alloc, Datum::Bool(retired)),
         Reply::Services => {
-            let pairs = entries(alloc, services)?;
+            let pairs = services.entries(alloc)?;
             one(alloc, Datum::Table(pairs))
         }
     }
@@ -62,22 +62,13 @@ fn one(alloc: Global, value: Datum) -> Result<Body, NoMemory>
     Ok(body)
 }
 
-fn entries(alloc: Global, services: &[Service]) -> Result<Pairs, NoMemory>
-    ensures { IfOk result (λ p. p ≡ map entry services.now) }
+/// What a list says of a service.
+pub fn entry(alloc: Global, handle: Handle, name: &Bytes) -> Result<(Datum, Datum), NoMemory>
+    ensures { IfOk result (λ p. p ≡ entry (record { handle = handle; name = name.now })) }
 {
-    let mut pairs = Items::new(alloc);
-    for service in services {
-        pairs.push(entry(alloc, service)?)?;
-    }
-    Ok(pairs)
-}
-
-fn entry(alloc: Global, service: &Service) -> Result<(Datum, Datum), NoMemory>
-    ensures { IfOk result (λ p. p ≡ entry service.now) }
-{
-    let address = address(alloc, service.handle)?;
+    let address = address(alloc, handle)?;
     let mut text = Bytes::from_slice(alloc, b"snlua ")?;
-    text.push_slice(service.name.as_slice())?;
+    text.push_slice(name.as_slice())?;
     Ok((Datum::Text(address), Datum::Text(text)))
 }
 

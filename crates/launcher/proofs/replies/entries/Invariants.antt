@@ -1,6 +1,0 @@
-use Rattle.std.proofs.Common.{◌≡◌, map, take}
-use Rattle.launcher.specs.Rows.{entry}
-use Rattle.launcher.proofs.replies.entries.Given as goal
-
-abbrev pub invariant-loop-service : goal.invariant-loop-service
-invariant-loop-service l = l.pairs ≡ map entry (take l.service-index l.services)
