@@ -1,11 +1,11 @@
 -- An act leaves the two levels fitting.
-use Rattle.std.proofs.Common.{◌⊎◌, inl, inr, ℕ, ◌≡◌, ◌≢◌, ◌<◌, ◌+◌, ◌==◌, Bool, true, false, List, [], ◌∷◌, ◌++◌, length, Option, Some, None, refl, ap, sym, ◌∙◌, subst, arith, length-append}
+use Rattle.std.proofs.Common.{◌⊎◌, inl, inr, ℕ, ◌≡◌, ◌≢◌, ◌<◌, ◌+◌, ◌==◌, Bool, true, false, List, [], ◌∷◌, length, Option, Some, None, refl, ap, sym, ◌∙◌, subst, arith, length-append}
 use Rattle.std.proofs.lemmas.Bool.Decides.{nat_tests}
 use Rattle.message.specs.Messages.{init_message}
 use Rattle.message.specs.Actors.{Way, IsLawful}
 use Rattle.message.specs.Registries.{Registry, at, set_at, register, next_handle}
-use Rattle.message.specs.Steps.{Op, Asks, Takes, Ends, Ticks, Fires, Agent, Serves, Times, IsOne, ops, due_ops, op_of, place_of, service_after, serving_after, ending_after, inbox_does}
-use Rattle.message.specs.Worlds.{World, agent, agent_or_clock, serves, act, grow_by}
+use Rattle.message.specs.Steps.{Takes, Ends, Agent, Serves, Times, op_of, place_of, service_after, inbox_does}
+use Rattle.message.specs.Worlds.{World, agent, agent_or_clock, act}
 use Rattle.sk_types.specs.declared.number.Handle.{Handle}
 use Rattle.sk_types.specs.declared.number.Session.{Session}
 use Rattle.message.specs.declared.datum.Datum.{Datum}
@@ -18,10 +18,9 @@ use Rattle.message.specs.declared.place.Service.{Service}
 use Rattle.message.specs.declared.place.Service.TheVariants.{Serving, Leaving}
 use Rattle.world_machine.specs.Serving.{IsLeaving}
 use Rattle.call_fates.proofs.Lists.{at_is}
-use Rattle.call_fates.proofs.Inverts.{Acted, acted, AtOne, AtNone, Grows, Launches, Registers, services_after, agent_is}
+use Rattle.call_fates.proofs.Inverts.{Acted, acted, AtOne, AtNone, Grows, Registers, services_after, agent_is}
 use Rattle.call_fates.proofs.Worlds.{inboxes_len, listed_len, launch_listed, registry_given}
-use Rattle.schedule_core.specs.declared.spot.Spot.{Spot}
-use Rattle.schedule_core.specs.declared.spot.Spot.TheVariants.{Home, Queued, Hand, Spent}
+use Rattle.schedule_core.specs.declared.spot.Spot.TheVariants.{Queued, Hand}
 use Rattle.schedule_core.specs.Turns.{Turns, woken, wake, joined, turns_after}
 use Rattle.schedule_core.specs.Levels.{Levels, IsTwo}
 use Rattle.schedule_core.specs.Cores.{MayAct}

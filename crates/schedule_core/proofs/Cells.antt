@@ -1,11 +1,10 @@
 -- What an act does to a service, its inbox and its turn, part by part.
-use Rattle.std.proofs.Common.{◌⊎◌, inl, inr, ℕ, ◌≡◌, ◌≢◌, ◌<◌, ◌≤◌, ◌+◌, ◌-◌, Bool, true, false, List, [], ◌∷◌, ◌++◌, length, Option, Some, None, if◌then◌else◌, refl, ap, sym, ◌∙◌, subst, arith, length-append, length-set}
+use Rattle.std.proofs.Common.{◌⊎◌, inl, inr, ◌≡◌, ◌≢◌, ◌<◌, ◌+◌, ◌-◌, true, List, [], ◌∷◌, ◌++◌, length, Option, Some, None, if◌then◌else◌, refl, ap, sym, ◌∙◌, subst, length-append, length-set}
 use Rattle.sk_types.specs.declared.number.Handle.{Handle}
 use Rattle.message.specs.Actors.{Way}
 use Rattle.message.specs.Inboxes.{accepts, added, marked, put, fire, mark, take_first, end}
 use Rattle.message.specs.Registries.{at, set_at}
-use Rattle.message.specs.Steps.{Op, Asks, Takes, Ends, Fires, inbox_does}
-use Rattle.message.specs.Worlds.{World}
+use Rattle.message.specs.Steps.{Asks, Takes, Ends, Fires, inbox_does}
 use Rattle.message.specs.declared.request.Message.{Message}
 use Rattle.message.specs.declared.request.Next.TheVariants.{Idle}
 use Rattle.message.specs.declared.request.Request.TheVariants as ask
@@ -17,11 +16,11 @@ use Rattle.message.specs.declared.place.InboxState.{InboxState}
 use Rattle.message.specs.declared.place.Service.{Service}
 use Rattle.message.specs.declared.place.Service.TheVariants.{Serving, Leaving}
 use Rattle.world_machine.specs.Serving.{IsIdle, IsLeaving}
-use Rattle.call_fates.proofs.Lists.{handle_is, at_is, at_here, at_last, at_set}
+use Rattle.call_fates.proofs.Lists.{at_is, at_here, at_last, at_set}
 use Rattle.schedule_core.specs.declared.spot.Spot.{Spot}
 use Rattle.schedule_core.specs.declared.spot.Spot.TheVariants.{Home, Queued, Hand, Spent}
 use Rattle.schedule_core.specs.Turns.{Turns, ArePlaced, woken, wake, joined}
-use Rattle.schedule_core.specs.Levels.{Levels, IsOver, Waits, IsAway, IsOut, HasWork, CellOk, IsTwo}
+use Rattle.schedule_core.specs.Levels.{Levels, IsOver, IsAway, IsOut, HasWork, CellOk, IsTwo}
 use Rattle.schedule_core.proofs.Lists.{same_or, at_other, at_pushed}
 use Rattle.schedule_core.proofs.Placed.{wake_placed, joined_placed}
 

@@ -1,17 +1,16 @@
 -- Where no turn is queued or in a hand and the clock has nothing to do, nobody has.
-use Rattle.std.proofs.Common.{◌⊎◌, inl, inr, ℕ, ◌≡◌, ◌≢◌, ◌<◌, ◌≤◌, ◌+◌, ◌==◌, nat_lt, Bool, true, false, List, [], ◌∷◌, length, Option, Some, None, if◌then◌else◌, refl, ap, sym, ◌∙◌, subst, arith}
+use Rattle.std.proofs.Common.{◌⊎◌, inl, inr, ◌≡◌, ◌≢◌, ◌<◌, ◌+◌, ◌==◌, nat_lt, Bool, true, false, List, [], ◌∷◌, length, Option, Some, None, if◌then◌else◌, refl, ap, sym, ◌∙◌, arith}
 use Rattle.std.proofs.lemmas.Bool.Decides.{nat_tests}
 use Rattle.message.specs.Messages.{timer_message}
 use Rattle.message.specs.Actors.{Way}
 use Rattle.message.specs.Inboxes.{take_first, end, fire}
 use Rattle.message.specs.Registries.{at}
-use Rattle.message.specs.Clocks.{Clock, tick, ticked, due_at, last_tick}
-use Rattle.message.specs.Steps.{Op, Takes, Ends, Ticks, Fires, Agent, Serves, Times, ops, next_ops, bounce_ops, due_ops, AtInbox, AtClock, with_state}
+use Rattle.message.specs.Clocks.{tick, ticked, due_at, last_tick}
+use Rattle.message.specs.Steps.{Takes, Ends, Ticks, Fires, Serves, Times, next_ops, bounce_ops, due_ops, AtInbox, AtClock, with_state}
 use Rattle.message.specs.Worlds.{World, agent, agent_or_clock, serves, act, inbox_state, answer_at}
 use Rattle.message.proofs.Acts.{act_first, act_neither, act_nothing, act_nobody}
 use Rattle.sk_types.specs.declared.number.Handle.{Handle}
 use Rattle.sk_types.specs.declared.number.Session.{Session}
-use Rattle.message.specs.declared.record.What.{What}
 use Rattle.message.specs.declared.record.What.TheVariants as did
 use Rattle.message.specs.declared.place.Timer.{Timer}
 use Rattle.message.specs.declared.place.InboxStatus.TheVariants.{Live}
@@ -21,10 +20,10 @@ use Rattle.message.specs.declared.place.Service.TheVariants.{Serving, Leaving}
 use Rattle.world_machine.specs.Serving.{IsIdle}
 use Rattle.world_machine.specs.Launching.{clock_agent}
 use Rattle.world_machine.proofs.Asking.{agent_serves}
-use Rattle.call_fates.proofs.Lists.{handle_is, at_is, at_some}
+use Rattle.call_fates.proofs.Lists.{handle_is, at_some}
 use Rattle.schedule_core.specs.declared.spot.Spot.{Spot}
 use Rattle.schedule_core.specs.declared.spot.Spot.TheVariants.{Home, Queued, Hand, Spent}
-use Rattle.schedule_core.specs.Turns.{queued, handed, in_queue, in_hand}
+use Rattle.schedule_core.specs.Turns.{queued, in_queue, in_hand}
 use Rattle.schedule_core.specs.Levels.{Levels, IsOver, CellOk, IsTwo, HasTimers, DueIn}
 use Rattle.schedule_core.specs.Laws.{IsQuiet, QuietIsDrained}
 use Rattle.schedule_core.proofs.Lists.{at_both, at_neither}

@@ -1,10 +1,9 @@
 -- Steps in any order.
-use Rattle.std.proofs.Common.{◌⊎◌, inl, inr, ℕ, ◌≡◌, ◌≢◌, ◌<◌, ◌≤◌, ◌+◌, List, [], ◌∷◌, ◌++◌, length, Option, Some, None, slice_get, slice_set, refl, ap, sym, ◌∙◌, subst, arith}
+use Rattle.std.proofs.Common.{◌⊎◌, inl, inr, ℕ, ◌≡◌, ◌≢◌, List, [], ◌∷◌, ◌++◌, Option, Some, None, slice_get, refl, ap, sym, ◌∙◌, subst, arith}
 use Rattle.std.proofs.lemmas.List.Sums.{sum_by-append, sum_by-cons}
-use Rattle.std.specs.List.{All}
 use Rattle.message.specs.Messages.{init_message}
-use Rattle.message.specs.Actors.{Way, IsLawful, Begins}
-use Rattle.message.specs.Registries.{at, set_at}
+use Rattle.message.specs.Actors.{Way, IsLawful}
+use Rattle.message.specs.Registries.{at}
 use Rattle.message.specs.Worlds.{World, act, after, go_on, opening, empty_inbox, start_inbox}
 use Rattle.sk_types.specs.declared.number.Handle.{Handle}
 use Rattle.message.specs.declared.request.Message.{Message}
@@ -17,7 +16,6 @@ use Rattle.message.specs.declared.place.Service.{Service}
 use Rattle.message.specs.declared.place.Service.TheVariants.{Serving, Leaving}
 use Rattle.world_machine.specs.Serving.{IsIdle}
 use Rattle.world_machine.specs.Launching.{clock_agent}
-use Rattle.call_fates.specs.Calls.{Call}
 use Rattle.call_fates.specs.Reached.{IsOpening}
 use Rattle.call_fates.proofs.Journals.{each_counted, each_taken_once}
 use Rattle.call_fates.proofs.Rests.{each_rests}
@@ -25,10 +23,10 @@ use Rattle.schedule_core.specs.declared.spot.Spot.{Spot}
 use Rattle.schedule_core.specs.declared.spot.Spot.TheVariants.{Home, Queued, Hand, Spent}
 use Rattle.schedule_core.specs.declared.action.Action.{Action}
 use Rattle.schedule_core.specs.declared.action.Action.TheVariants as does
-use Rattle.schedule_core.specs.Turns.{Turns, handed, one_in, in_hand, ArePlaced, AreEmpty, AreOpening, first_turns, laid, sent_last, joined, turns_after, IsFetch}
-use Rattle.schedule_core.specs.Levels.{Levels, IsOver, IsTwo, HasTimers, CellOk}
-use Rattle.schedule_core.specs.Steps.{ParksAt, ParksBy, IsPark, IsRequeue, IsExchange, with_hand, IsLaunch, IsAct, IsClock, IsStep, Cannot, Tries, Runs}
-use Rattle.schedule_core.specs.Laws.{IsRun, StepsKeepTwo, AreFirst, IsSettled, CallsAreSettled}
+use Rattle.schedule_core.specs.Turns.{Turns, one_in, ArePlaced, AreEmpty, AreOpening, first_turns, laid, joined, turns_after, IsFetch}
+use Rattle.schedule_core.specs.Levels.{Levels, IsOver, IsTwo, HasTimers}
+use Rattle.schedule_core.specs.Steps.{ParksAt, ParksBy, IsPark, IsRequeue, IsExchange, with_hand, IsLaunch, IsAct, IsStep, Tries, Runs}
+use Rattle.schedule_core.specs.Laws.{StepsKeepTwo, CallsAreSettled}
 use Rattle.schedule_core.specs.Cores.{IsFit}
 use Rattle.schedule_core.proofs.Lists.{at_nothing}
 use Rattle.schedule_core.proofs.Placed.{apart, held_is, first_is, fetch_placed, laid_placed, sent_placed, none_placed}

@@ -1,4 +1,4 @@
-use Rattle.std.proofs.Common.{◌≡◌, false, [], ap, sym, ◌∙◌, refl}
+use Rattle.std.proofs.Common.{◌≡◌, false, [], ap, ◌∙◌, refl}
 use Rattle.std.proofs.lemmas.Bool.{OnFalse_at}
 use Rattle.message.specs.Worlds.{over}
 use Rattle.schedule_core.specs.Cores.{Scheduled}
@@ -28,4 +28,4 @@ returns-clause-done g c =
     let idle = c.is_idle.ensures.0 c.if-not-is_idle.false in
     let waits : w.turns.turns.queue ≡ [] → ⊥ = λ e. both_not c.is_queue_empty.result (c.is_queue_empty.ensures.1 e) c.if-is_queue_empty.false in
     let x = exchanges_by way (over f w.world.world) w.turns.turns c.reserve.new.self.turns c.exchange.new.self.turns c.args.worker c.in-Some.own c.phase.result fit.two.placed c.in-Some.ensures.some c.phase.ensures idle waits c.in_ok-reserve.ensures.same c.exchange.ensures in
-    rw (← c.self.view_is) ([], (x.0, x.1, refl, refl, x.2))
+    rw (← c.self.view_is) ([], (x.0, x.1, refl, refl, x.2), refl)

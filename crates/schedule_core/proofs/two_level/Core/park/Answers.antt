@@ -28,7 +28,7 @@ returns-in-Some-Home-clause-done g c =
     let fit = OnFalse_at whole c.self.invariant in
     let says = park_says way (over f w.world.world) w.turns.turns c.args.worker c.in-Some.own c.phase.result (option_copied c.inbox.result) c.parked.result fit.two.placed c.in-Some.ensures.some c.phase.ensures c.inbox.ensures c.parked.ensures in
     let there = subst (Parking way w.turns.turns c.args.worker c.in-Some.own (over f w.world.world)) (c.in-Some-Home.is ∙ ap Some c.in-Some-Home.field-0-is) says in
-    rw (← c.self.view_is) ([], (c.in-Some.own, refl, refl, subst (IsPark way (over f w.world.world) w.turns.turns c.args.worker c.in-Some.own) (sym c.lay.ensures) there))
+    rw (← c.self.view_is) ([], (c.in-Some.own, refl, refl, subst (IsPark way (over f w.world.world) w.turns.turns c.args.worker c.in-Some.own) (sym c.lay.ensures) there), refl)
 
 pub invariant_of-self-in-Some-Spent : goal.invariant_of-self-in-Some-Spent
 invariant_of-self-in-Some-Spent g c =
@@ -50,7 +50,7 @@ returns-in-Some-Spent-clause-done g c =
     let fit = OnFalse_at whole c.self.invariant in
     let says = park_says way (over f w.world.world) w.turns.turns c.args.worker c.in-Some.own c.phase.result (option_copied c.inbox.result) c.parked.result fit.two.placed c.in-Some.ensures.some c.phase.ensures c.inbox.ensures c.parked.ensures in
     let there = subst (Parking way w.turns.turns c.args.worker c.in-Some.own (over f w.world.world)) (c.in-Some-Spent.is ∙ ap Some c.in-Some-Spent.field-0-is) says in
-    rw (← c.self.view_is) ([], (c.in-Some.own, refl, refl, subst (IsPark way (over f w.world.world) w.turns.turns c.args.worker c.in-Some.own) (sym c.lay-in-Some-Spent.ensures) there))
+    rw (← c.self.view_is) ([], (c.in-Some.own, refl, refl, subst (IsPark way (over f w.world.world) w.turns.turns c.args.worker c.in-Some.own) (sym c.lay-in-Some-Spent.ensures) there), refl)
 
 pub returns-in-Some-Hand-clause-done : goal.returns-in-Some-Hand-clause-done
 returns-in-Some-Hand-clause-done g c =
@@ -61,4 +61,4 @@ returns-in-Some-Hand-clause-done g c =
     let fit = OnFalse_at whole c.self.invariant in
     let says = park_says way (over f w.world.world) w.turns.turns c.args.worker c.in-Some.own c.phase.result (option_copied c.inbox.result) c.parked.result fit.two.placed c.in-Some.ensures.some c.phase.ensures c.inbox.ensures c.parked.ensures in
     let there = subst (Parking way w.turns.turns c.args.worker c.in-Some.own (over f w.world.world)) (c.in-Some-Hand.is ∙ ap Some c.in-Some-Hand.field-0-is) says in
-    rw (← c.self.view_is) ([], (c.in-Some.own, refl, refl, there))
+    rw (← c.self.view_is) ([], (c.in-Some.own, refl, refl, there), refl)
