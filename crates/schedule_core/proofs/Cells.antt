@@ -20,7 +20,7 @@ use Rattle.call_fates.proofs.Lists.{at_is, at_here, at_last, at_set}
 use Rattle.schedule_core.specs.declared.spot.Spot.{Spot}
 use Rattle.schedule_core.specs.declared.spot.Spot.TheVariants.{Home, Queued, Hand, Spent}
 use Rattle.schedule_core.specs.Turns.{Turns, ArePlaced, woken, wake, joined}
-use Rattle.schedule_core.specs.Levels.{Levels, IsOver, IsAway, IsOut, HasWork, CellOk, IsTwo}
+use Rattle.schedule_core.specs.Levels.{Levels, IsOver, IsAway, IsOut, HasWork, CellOk, HasTurns}
 use Rattle.schedule_core.proofs.Lists.{same_or, at_other, at_pushed}
 use Rattle.schedule_core.proofs.Placed.{wake_placed, joined_placed}
 
@@ -216,7 +216,7 @@ pub record Mid {S : Type 0} (way : Way S) (ss : List (Service S)) (is : List Inb
   pub services : length ss ≡ length t.spots
   pub inboxes : length is ≡ length t.spots
 
-pub mid_of : {S : Type 0} (way : Way S) (c : Levels S) → IsTwo way c → Mid way c.world.services c.world.inboxes c.turns
+pub mid_of : {S : Type 0} (way : Way S) (c : Levels S) → HasTurns way c → Mid way c.world.services c.world.inboxes c.turns
 mid_of way c two = record { placed = two.placed; cells = two.cells; services = two.services; inboxes = two.inboxes }
 
 cell_at : {S : Type 0} (way : Way S) (x y : Service S) (i j : InboxState) (p q : Spot) → x ≡ y → i ≡ j → p ≡ q → CellOk way x i p → CellOk way y j q
@@ -377,7 +377,7 @@ cell_spent way x i over ok = record {
   spent = λ e. over;
 }
 
-pub two_with : {S : Type 0} (way : Way S) (c : Levels S) (t2 : Turns) → IsTwo way c → Mid way c.world.services c.world.inboxes t2 → IsTwo way (record { world = c.world; turns = t2 })
+pub two_with : {S : Type 0} (way : Way S) (c : Levels S) (t2 : Turns) → HasTurns way c → Mid way c.world.services c.world.inboxes t2 → HasTurns way (record { world = c.world; turns = t2 })
 two_with way c t2 two mid = record { placed = mid.placed; cells = mid.cells; services = mid.services; inboxes = mid.inboxes; listed = two.listed ∙ (sym two.inboxes ∙ mid.inboxes) }
 
 -- WHERE NOTHING IS TO BE DONE

@@ -23,7 +23,7 @@ use Rattle.call_fates.proofs.Lists.{handle_is}
 use Rattle.call_fates.proofs.Inverts.{Acted, acted, Grows, Registers}
 use Rattle.call_fates.proofs.Worlds.{listed_len, launch_listed, registry_given}
 use Rattle.schedule_core.specs.Turns.{Turns, joined, turns_after}
-use Rattle.schedule_core.specs.Levels.{Levels, IsTwo}
+use Rattle.schedule_core.specs.Levels.{Levels, HasTurns}
 use Rattle.schedule_core.specs.Cores.{followed}
 
 -- the phase is that of what is done
@@ -75,7 +75,7 @@ not_below n m e = grind (arith, nat_tests)
 is_below : (n m : ℕ) → m ≡ n + 1 → nat_lt n m ≡ true
 is_below n m e = grind (arith, nat_tests)
 
-module _ {S : Type 0} (way : Way S) (c : Levels S) (h : Handle) (two : IsTwo way c) where
+module _ {S : Type 0} (way : Way S) (c : Levels S) (h : Handle) (two : HasTurns way c) where
   abbrev w : World S
   w = c.world
 
@@ -127,7 +127,7 @@ module _ {S : Type 0} (way : Way S) (c : Levels S) (h : Handle) (two : IsTwo way
   follows (did.End ms) w2 x = stays (did.End ms) w2 x (λ a b o e. cc)
   follows (did.Tick due) w2 x = stays (did.Tick due) w2 x (λ a b o e. cc)
 
-pub follows_act : {S : Type 0} (way : Way S) (c : Levels S) (h : Handle) (what : What) (w2 : World S) → IsTwo way c → act way c.world h ≡ Some (what, w2)
+pub follows_act : {S : Type 0} (way : Way S) (c : Levels S) (h : Handle) (what : What) (w2 : World S) → HasTurns way c → act way c.world h ≡ Some (what, w2)
     → (p : Option Phase) → p ≡ phase way c.world h → followed p (length c.world.registry.listed) (length w2.registry.listed) c.turns ≡ turns_after c.turns what
 follows_act way c h what w2 two e p is =
     let x = acted way c.world h (what, w2) e in

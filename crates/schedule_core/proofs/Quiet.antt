@@ -24,7 +24,7 @@ use Rattle.call_fates.proofs.Lists.{handle_is, at_some}
 use Rattle.schedule_core.specs.declared.spot.Spot.{Spot}
 use Rattle.schedule_core.specs.declared.spot.Spot.TheVariants.{Home, Queued, Hand, Spent}
 use Rattle.schedule_core.specs.Turns.{queued, in_queue, in_hand}
-use Rattle.schedule_core.specs.Levels.{Levels, IsOver, CellOk, IsTwo, HasTimers, DueIn}
+use Rattle.schedule_core.specs.Levels.{Levels, IsOver, CellOk, HasTurns, HasTimers, DueIn}
 use Rattle.schedule_core.specs.Laws.{IsQuiet, QuietIsDrained}
 use Rattle.schedule_core.proofs.Lists.{at_both, at_neither}
 use Rattle.schedule_core.proofs.Counts.{none_handed}
@@ -45,7 +45,7 @@ over_rests way w h (Leaving e) there over = act_nothing way w h (Serves (Leaving
 some_none : {X : Type 0} (x : X) → Some x ≢ None
 some_none x e = cc
 
-module _ {S : Type 0} (way : Way S) (c : Levels S) (two : IsTwo way c) (timers : HasTimers c.world) (quiet : IsQuiet way c) where
+module _ {S : Type 0} (way : Way S) (c : Levels S) (two : HasTurns way c) (timers : HasTimers c.world) (quiet : IsQuiet way c) where
   abbrev w : World S
   w = c.world
 
@@ -111,4 +111,4 @@ module _ {S : Type 0} (way : Way S) (c : Levels S) (two : IsTwo way c) (timers :
     by (inr early) = ticks early w.clock.timers refl
 
 pub quiet_drained : {S : Type 0} (way : Way S) → QuietIsDrained way
-quiet_drained way c two timers quiet = record { still = still way c two timers quiet; timers = none_wait way c two timers quiet; due = none_due way c two timers quiet }
+quiet_drained way c two quiet = record { still = still way c two.turns two.timers quiet; timers = none_wait way c two.turns two.timers quiet; due = none_due way c two.turns two.timers quiet }

@@ -10,7 +10,7 @@ use Rattle.message.specs.declared.record.What.{What}
 use Rattle.schedule_core.specs.declared.spot.Rest.{Rest}
 use Rattle.schedule_core.specs.declared.spot.Spot.TheVariants.{Hand}
 use Rattle.schedule_core.specs.Turns.{Turns, ArePlaced, sent_last, turns_after, IsFetch}
-use Rattle.schedule_core.specs.Levels.{Levels, IsTwo, levels_over}
+use Rattle.schedule_core.specs.Levels.{Levels, HasTurns, IsTwo, levels_over}
 use Rattle.std.specs.Prelude.{Result, Ok, Err, IfOk}
 use Rattle.world_machine.specs.Machines.{Run}
 use Rattle.world_machine.specs.Launching.{clock_agent}
@@ -21,7 +21,7 @@ use Rattle.message.specs.declared.place.InboxState.{InboxState}
 use Rattle.world_machine.specs.Phases.{phase}
 use Rattle.world_machine.specs.declared.phase.Phase.{Phase}
 use Rattle.world_machine.specs.declared.phase.Phase.TheVariants as phases
-use Rattle.schedule_core.specs.Cores.{TurnBook, Scheduled, levels_of, Steps, Moves, Tried, IsFit, MayAct}
+use Rattle.schedule_core.specs.Cores.{TurnBook, Scheduled, levels_of, Steps, Moves, Tried, MayAct}
 use Rattle.schedule_core.proofs.Runs.{fetched, parked, exchanged}
 use Rattle.schedule_core.proofs.Placed.{held_is}
 use Rattle.schedule_core.proofs.Parking.{Parking, parking, phase_idle}
@@ -36,21 +36,21 @@ pub on_false : {P Q : Type 0} (b : Bool) → (P → Q) → OnFalse b P → OnFal
 on_false true f p = p
 on_false false f p = f p
 
-pub fit_with : {S : Type 0} (way : Way S) (w : World S) (t t2 : Turns) → IsFit way (record { world = w; turns = t }) → IsTwo way (record { world = w; turns = t2 }) → IsFit way (record { world = w; turns = t2 })
-fit_with way w t t2 fit two = record { two = two; timers = fit.timers }
+pub fit_with : {S : Type 0} (way : Way S) (w : World S) (t t2 : Turns) → IsTwo way (record { world = w; turns = t }) → HasTurns way (record { world = w; turns = t2 }) → IsTwo way (record { world = w; turns = t2 })
+fit_with way w t t2 fit two = record { turns = two; timers = fit.timers }
 
-pub fit_fetched : {S : Type 0} (way : Way S) (w : World S) (t t2 : Turns) (i : ℕ) (b spent : Bool) → OnFalse spent (IsFit way (record { world = w; turns = t }))
-    → (b ≡ true → (own : Handle) × IsFetch t i own t2) → (b ≡ false → t2 ≡ t) → OnFalse spent (IsFit way (record { world = w; turns = t2 }))
+pub fit_fetched : {S : Type 0} (way : Way S) (w : World S) (t t2 : Turns) (i : ℕ) (b spent : Bool) → OnFalse spent (IsTwo way (record { world = w; turns = t }))
+    → (b ≡ true → (own : Handle) × IsFetch t i own t2) → (b ≡ false → t2 ≡ t) → OnFalse spent (IsTwo way (record { world = w; turns = t2 }))
 fit_fetched way w t t2 i true spent fit done other =
     let x = done refl in
-    on_false spent (λ (f : IsFit way (record { world = w; turns = t })). fit_with way w t t2 f (fetched way (record { world = w; turns = t }) f.two i x.0 t2 x.1)) fit
-fit_fetched way w t t2 i false spent fit done other = subst (λ (z : Turns). OnFalse spent (IsFit way (record { world = w; turns = z }))) (sym (other refl)) fit
+    on_false spent (λ (f : IsTwo way (record { world = w; turns = t })). fit_with way w t t2 f (fetched way (record { world = w; turns = t }) f.turns i x.0 t2 x.1)) fit
+fit_fetched way w t t2 i false spent fit done other = subst (λ (z : Turns). OnFalse spent (IsTwo way (record { world = w; turns = z }))) (sym (other refl)) fit
 
-pub fit_acted : {S : Type 0} (way : Way S) (sound : S → Type 0) → IsLawful way sound → (w w2 : World S) (t : Turns) (h : Handle) (what : What) → IsFit way (record { world = w; turns = t }) → MayAct t h → act way w h ≡ Some (what, w2)
-    → IsFit way (record { world = w2; turns = turns_after t what })
+pub fit_acted : {S : Type 0} (way : Way S) (sound : S → Type 0) → IsLawful way sound → (w w2 : World S) (t : Turns) (h : Handle) (what : What) → IsTwo way (record { world = w; turns = t }) → MayAct t h → act way w h ≡ Some (what, w2)
+    → IsTwo way (record { world = w2; turns = turns_after t what })
 fit_acted way sound lawful w w2 t h what fit may e = record {
-  two = act_two way sound lawful (record { world = w; turns = t }) h what w2 fit.two may e;
-  timers = act_timers way w h what w2 fit.timers (fit.two.services ∙ sym fit.two.inboxes) e;
+  turns = act_two way sound lawful (record { world = w; turns = t }) h what w2 fit.turns may e;
+  timers = act_timers way w h what w2 fit.timers (fit.turns.services ∙ sym fit.turns.inboxes) e;
 }
 
 abbrev with_turns : {A : Type 0} → Run A → Turns → Scheduled A
@@ -106,15 +106,15 @@ exchanges_by way w t t1 t2 i own p placed has told idle waits same x =
       },
     )
 
-pub fit_exchanged : {S : Type 0} (way : Way S) (w : World S) (t t2 : Turns) (i : ℕ) (spent : Bool) → OnFalse spent (IsFit way (record { world = w; turns = t }))
-    → (old : Handle) × (new : Handle) × IsExchange way w t i old new t2 → OnFalse spent (IsFit way (record { world = w; turns = t2 }))
+pub fit_exchanged : {S : Type 0} (way : Way S) (w : World S) (t t2 : Turns) (i : ℕ) (spent : Bool) → OnFalse spent (IsTwo way (record { world = w; turns = t }))
+    → (old : Handle) × (new : Handle) × IsExchange way w t i old new t2 → OnFalse spent (IsTwo way (record { world = w; turns = t2 }))
 fit_exchanged way w t t2 i spent fit x =
-    on_false spent (λ (z : IsFit way (record { world = w; turns = t })). fit_with way w t t2 z (exchanged way (record { world = w; turns = t }) z.two i x.0 x.1 t2 x.2)) fit
+    on_false spent (λ (z : IsTwo way (record { world = w; turns = t })). fit_with way w t t2 z (exchanged way (record { world = w; turns = t }) z.turns i x.0 x.1 t2 x.2)) fit
 
 -- a Park
-pub fit_parked : {S : Type 0} (way : Way S) (w : World S) (t t2 : Turns) (i : ℕ) (own : Handle) (spent : Bool) → OnFalse spent (IsFit way (record { world = w; turns = t })) → IsPark way w t i own t2 → OnFalse spent (IsFit way (record { world = w; turns = t2 }))
+pub fit_parked : {S : Type 0} (way : Way S) (w : World S) (t t2 : Turns) (i : ℕ) (own : Handle) (spent : Bool) → OnFalse spent (IsTwo way (record { world = w; turns = t })) → IsPark way w t i own t2 → OnFalse spent (IsTwo way (record { world = w; turns = t2 }))
 fit_parked way w t t2 i own spent fit x =
-    on_false spent (λ (z : IsFit way (record { world = w; turns = t })). fit_with way w t t2 z (parked way (record { world = w; turns = t }) z.two i own t2 x)) fit
+    on_false spent (λ (z : IsTwo way (record { world = w; turns = t })). fit_with way w t t2 z (parked way (record { world = w; turns = t }) z.turns i own t2 x)) fit
 
 pub park_says : {S : Type 0} (way : Way S) (w : World S) (t : Turns) (i : ℕ) (own : Handle) (p : Option Phase) (o : Option InboxState) (q : Option Rest) → ArePlaced t → slice_get t.hands i ≡ Some (Some own)
     → p ≡ phase way w own → o ≡ at w.inboxes own.0 → q ≡ parked_lem p o → Parking way t i own w q
@@ -126,16 +126,16 @@ park_says way w t i own p o q placed has told found is =
 abbrev GoesOn : {A S : Type 0} → Way S → (A → S) → Run A → Turns → Handle → Run A → Turns → Type 0
 GoesOn way f r t h r2 t2 = (what : What) × (act way (over f r.world) h ≡ Some (what, over f r2.world)) × Follows way (over f r.world) h what r.calls r2.calls × (t2 ≡ turns_after t what)
 
-pub follows_so : {A S : Type 0} (way : Way S) (f : A → S) (r r2 : Run A) (t t2 : Turns) (h : Handle) (b : Bool) (p : Option Phase) (before after : ℕ) → IsFit way (levels_over f r.world t) → b ≡ true → Tried way f r h b r2
+pub follows_so : {A S : Type 0} (way : Way S) (f : A → S) (r r2 : Run A) (t t2 : Turns) (h : Handle) (b : Bool) (p : Option Phase) (before after : ℕ) → IsTwo way (levels_over f r.world t) → b ≡ true → Tried way f r h b r2
     → p ≡ phase way (over f r.world) h → before ≡ length r.world.registry.listed → after ≡ length r2.world.registry.listed → t2 ≡ followed p before after t → GoesOn way f r t h r2 t2
 follows_so way f r r2 t t2 h false p before after fit e x told b1 b2 is = absurd (cc)
 follows_so way f r r2 t t2 h true p before after fit e x told b1 b2 is =
-    (x.0, x.1, x.2, is ∙ (ap (λ n. followed p n after t) b1 ∙ (ap (λ n. followed p (length r.world.registry.listed) n t) b2 ∙ follows_act way (levels_over f r.world t) h x.0 (over f r2.world) fit.two x.1 p told)))
+    (x.0, x.1, x.2, is ∙ (ap (λ n. followed p n after t) b1 ∙ (ap (λ n. followed p (length r.world.registry.listed) n t) b2 ∙ follows_act way (levels_over f r.world t) h x.0 (over f r2.world) fit.turns x.1 p told)))
 
-pub fit_gone_on : {A S : Type 0} (way : Way S) (sound : S → Type 0) → IsLawful way sound → (f : A → S) (r r2 : Run A) (t t2 : Turns) (h : Handle) → IsFit way (levels_over f r.world t) → MayAct t h → GoesOn way f r t h r2 t2
-    → OnFalse r2.spent (IsFit way (levels_over f r2.world t2))
-fit_gone_on way sound lawful f r r2 t t2 h fit may x = OnFalse_from r2.spent (IsFit way (levels_over f r2.world t2))
-    (λ whole. subst (λ (z : Turns). IsFit way (levels_over f r2.world z)) (sym x.3) (fit_acted way sound lawful (over f r.world) (over f r2.world) t h x.0 fit may x.1))
+pub fit_gone_on : {A S : Type 0} (way : Way S) (sound : S → Type 0) → IsLawful way sound → (f : A → S) (r r2 : Run A) (t t2 : Turns) (h : Handle) → IsTwo way (levels_over f r.world t) → MayAct t h → GoesOn way f r t h r2 t2
+    → OnFalse r2.spent (IsTwo way (levels_over f r2.world t2))
+fit_gone_on way sound lawful f r r2 t t2 h fit may x = OnFalse_from r2.spent (IsTwo way (levels_over f r2.world t2))
+    (λ whole. subst (λ (z : Turns). IsTwo way (levels_over f r2.world z)) (sym x.3) (fit_acted way sound lawful (over f r.world) (over f r2.world) t h x.0 fit may x.1))
 
 abbrev pub followed_with : Option Phase → ℕ → ℕ → Turns → Turns
 followed_with p before after t = followed p before after t

@@ -18,7 +18,7 @@ use Rattle.schedule_core.specs.declared.spot.Spot.TheVariants.{Hand}
 use Rattle.schedule_core.specs.declared.spot.Rest.{Rest}
 use Rattle.schedule_core.specs.declared.spot.Rest.TheVariants as rest
 use Rattle.schedule_core.specs.Turns.{Turns, wake, joined, turns_after}
-use Rattle.schedule_core.specs.Levels.{Levels, IsTwo, HasTimers, levels_over}
+use Rattle.schedule_core.specs.Levels.{Levels, levels_over}
 use Rattle.schedule_core.specs.Steps.{IsStep, Cannot}
 
 -- the turns, and for how many more there is room
@@ -33,11 +33,6 @@ pub record Scheduled (A : Type 0) : Type 0 where
 
 abbrev pub levels_of : {A S : Type 0} → (A → S) → Scheduled A → Levels S
 levels_of f s = levels_over f s.run.world s.turns
-
--- the two levels fit, and each timer is that of a handle that was given
-pub record IsFit {S : Type 0} (way : Way S) (c : Levels S) : Type 0 where
-  pub two : IsTwo way c
-  pub timers : HasTimers c.world
 
 -- Whether the step was done; then the list of calls followed the agents that acted. Where it was not there is no such step, and
 -- nothing changes.
