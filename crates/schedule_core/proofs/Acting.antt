@@ -1,11 +1,11 @@
 -- An act leaves the two levels fitting.
-use Rattle.std.proofs.Common.{◌⊎◌, inl, inr, ℕ, ◌≡◌, ◌≢◌, ◌<◌, ◌+◌, ◌==◌, Bool, true, false, List, [], ◌∷◌, ◌++◌, length, Option, Some, None, refl, ap, sym, ◌∙◌, subst, arith, length-append}
+use Rattle.std.proofs.Common.{◌⊎◌, inl, inr, ℕ, ◌≡◌, ◌≢◌, ◌<◌, ◌+◌, ◌==◌, Bool, true, false, List, [], ◌∷◌, length, Option, Some, None, refl, ap, sym, ◌∙◌, subst, arith, length-append}
 use Rattle.std.proofs.lemmas.Bool.Decides.{nat_tests}
 use Rattle.message.specs.Messages.{init_message}
 use Rattle.message.specs.Actors.{Way, IsLawful}
 use Rattle.message.specs.Registries.{Registry, at, set_at, register, next_handle}
-use Rattle.message.specs.Steps.{Op, Asks, Takes, Ends, Ticks, Fires, Agent, Serves, Times, IsOne, ops, due_ops, op_of, place_of, service_after, serving_after, ending_after, inbox_does}
-use Rattle.message.specs.Worlds.{World, agent, agent_or_clock, serves, act, grow_by}
+use Rattle.message.specs.Steps.{Takes, Ends, Agent, Serves, Times, op_of, place_of, service_after, inbox_does}
+use Rattle.message.specs.Worlds.{World, agent, agent_or_clock, act}
 use Rattle.sk_types.specs.declared.number.Handle.{Handle}
 use Rattle.sk_types.specs.declared.number.Session.{Session}
 use Rattle.message.specs.declared.datum.Datum.{Datum}
@@ -18,12 +18,11 @@ use Rattle.message.specs.declared.place.Service.{Service}
 use Rattle.message.specs.declared.place.Service.TheVariants.{Serving, Leaving}
 use Rattle.world_machine.specs.Serving.{IsLeaving}
 use Rattle.call_fates.proofs.Lists.{at_is}
-use Rattle.call_fates.proofs.Inverts.{Acted, acted, AtOne, AtNone, Grows, Launches, Registers, services_after, agent_is}
+use Rattle.call_fates.proofs.Inverts.{Acted, acted, AtOne, AtNone, Grows, Registers, services_after, agent_is}
 use Rattle.call_fates.proofs.Worlds.{inboxes_len, listed_len, launch_listed, registry_given}
-use Rattle.schedule_core.specs.declared.spot.Spot.{Spot}
-use Rattle.schedule_core.specs.declared.spot.Spot.TheVariants.{Home, Queued, Hand, Spent}
+use Rattle.schedule_core.specs.declared.spot.Spot.TheVariants.{Queued, Hand}
 use Rattle.schedule_core.specs.Turns.{Turns, woken, wake, joined, turns_after}
-use Rattle.schedule_core.specs.Levels.{Levels, IsTwo}
+use Rattle.schedule_core.specs.Levels.{Levels, HasTurns}
 use Rattle.schedule_core.specs.Cores.{MayAct}
 use Rattle.schedule_core.proofs.Cells.{Changes, Mid, mid_of, live_with, put_changes, fire_changes, mark_does, take_does, end_does}
 use Rattle.schedule_core.proofs.Cells as cells
@@ -74,7 +73,7 @@ no_registry to e = cc
 no_clock : (to : Handle) → TheClock ≡ TheInbox to → ⊥
 no_clock to e = cc
 
-module _ {S : Type 0} (way : Way S) (c : Levels S) (h : Handle) (two : IsTwo way c) (may : MayAct c.turns h) where
+module _ {S : Type 0} (way : Way S) (c : Levels S) (h : Handle) (two : HasTurns way c) (may : MayAct c.turns h) where
   abbrev w : World S
   w = c.world
 
@@ -141,16 +140,16 @@ module _ {S : Type 0} (way : Way S) (c : Levels S) (h : Handle) (two : IsTwo way
 
   -- where no service was launched
   plain : (what : What) (w2 : World S) (x : Acted way w h (what, w2)) (t2 : Turns) → ((text : List ℕ) (args : List Datum) (own : Handle) → what ≡ did.Launch text args (Some own) → ⊥) → Mid way x.mid.services x.mid.inboxes t2
-      → IsTwo way (record { world = w2; turns = t2 })
+      → HasTurns way (record { world = w2; turns = t2 })
   plain what w2 x t2 none mid = go x.grows where
     len : length x.mid.registry.listed ≡ length t2.spots
     len = listed_len way w h what x.mid.registry x.registry (λ text args own e. absurd (none text args own e)) ∙ (two.listed ∙ (sym two.inboxes ∙ (sym (inboxes_len w h (op_of what) what x.mid.inboxes x.inboxes) ∙ mid.inboxes)))
 
-    go : Grows way what x.mid w2 → IsTwo way (record { world = w2; turns = t2 })
-    go (inl p) = subst (λ (z : World S). IsTwo way (record { world = z; turns = t2 })) (sym p.0) (record { placed = mid.placed; cells = mid.cells; services = mid.services; inboxes = mid.inboxes; listed = len })
+    go : Grows way what x.mid w2 → HasTurns way (record { world = w2; turns = t2 })
+    go (inl p) = subst (λ (z : World S). HasTurns way (record { world = z; turns = t2 })) (sym p.0) (record { placed = mid.placed; cells = mid.cells; services = mid.services; inboxes = mid.inboxes; listed = len })
     go (inr l) = absurd (none l.text l.args l.own l.is)
 
-  launches : (sound : S → Type 0) → IsLawful way sound → (text : List ℕ) (args : List Datum) (own : Handle) (w2 : World S) (x : Acted way w h (did.Launch text args (Some own), w2)) → IsTwo way (record { world = w2; turns = joined t own })
+  launches : (sound : S → Type 0) → IsLawful way sound → (text : List ℕ) (args : List Datum) (own : Handle) (w2 : World S) (x : Acted way w h (did.Launch text args (Some own), w2)) → HasTurns way (record { world = w2; turns = joined t own })
   launches sound lawful text args own w2 x = go x.grows where
     mid : Mid way x.mid.services x.mid.inboxes t
     mid = elsewhere (did.Launch text args (Some own)) w2 x tt no_registry
@@ -165,12 +164,12 @@ module _ {S : Type 0} (way : Way S) (c : Levels S) (h : Handle) (two : IsTwo way
     bars (inl p) = (registry_given way (op_of (did.Launch text args (Some own))) w.registry (did.Launch text args (Some own)) x.mid.registry p.1).2
     bars (inr p) = absurd (p.0 refl)
 
-    go : Grows way (did.Launch text args (Some own)) x.mid w2 → IsTwo way (record { world = w2; turns = joined t own })
+    go : Grows way (did.Launch text args (Some own)) x.mid w2 → HasTurns way (record { world = w2; turns = joined t own })
     go (inl p) = absurd (bars x.registry (p.1 text args own refl))
     go (inr l) =
         let new = lawful.begin l.text l.own l.state l.begins in
         let born = cells.joins way x.mid.services x.mid.inboxes t mid own l.state (init_message l.args ∷ []) next new.is_new.idle in
-        subst (λ (z : World S). IsTwo way (record { world = z; turns = joined t own })) (sym l.grown) (record {
+        subst (λ (z : World S). HasTurns way (record { world = z; turns = joined t own })) (sym l.grown) (record {
           placed = born.placed;
           cells = born.cells;
           services = born.services;
@@ -178,7 +177,7 @@ module _ {S : Type 0} (way : Way S) (c : Levels S) (h : Handle) (two : IsTwo way
           listed = ap (λ (z : Registry). length z.listed) listed.1 ∙ (length-append w.registry.listed (true ∷ []) ∙ (ap (λ n. n + 1) two.listed ∙ sym (length-append t.spots (Queued ∷ []))));
         })
 
-  kept : (sound : S → Type 0) → IsLawful way sound → (what : What) (w2 : World S) → Acted way w h (what, w2) → IsTwo way (record { world = w2; turns = turns_after t what })
+  kept : (sound : S → Type 0) → IsLawful way sound → (what : What) (w2 : World S) → Acted way w h (what, w2) → HasTurns way (record { world = w2; turns = turns_after t what })
   kept sound lawful (did.Look d f) w2 x = plain (did.Look d f) w2 x t (λ a b o e. cc) (elsewhere (did.Look d f) w2 x tt no_registry)
   kept sound lawful (did.Put to m b) w2 x = plain (did.Put to m b) w2 x (wake t to) (λ a b2 o e. cc) (at_inbox (did.Put to m b) w2 x tt to refl (λ i i2 e. put_changes to m (did.Put to m b) i i2 e))
   kept sound lawful (did.Launch text args (Some own)) w2 x = launches sound lawful text args own w2 x
@@ -194,6 +193,6 @@ module _ {S : Type 0} (way : Way S) (c : Levels S) (h : Handle) (two : IsTwo way
   kept sound lawful (did.Fire to m b) w2 x = plain (did.Fire to m b) w2 x (wake t to) (λ a b2 o e. cc) (at_inbox (did.Fire to m b) w2 x tt to refl (λ i i2 e. fire_changes to m (did.Fire to m b) i i2 e))
 
 -- an act by the clock's agent, or by a service whose turn is in a hand
-pub act_two : {S : Type 0} (way : Way S) (sound : S → Type 0) → IsLawful way sound → (c : Levels S) (h : Handle) (what : What) (w2 : World S) → IsTwo way c → MayAct c.turns h → act way c.world h ≡ Some (what, w2)
-    → IsTwo way (record { world = w2; turns = turns_after c.turns what })
+pub act_two : {S : Type 0} (way : Way S) (sound : S → Type 0) → IsLawful way sound → (c : Levels S) (h : Handle) (what : What) (w2 : World S) → HasTurns way c → MayAct c.turns h → act way c.world h ≡ Some (what, w2)
+    → HasTurns way (record { world = w2; turns = turns_after c.turns what })
 act_two way sound lawful c h what w2 two may e = kept way c h two may sound lawful what w2 (acted way c.world h (what, w2) e)

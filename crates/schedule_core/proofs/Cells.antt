@@ -1,11 +1,10 @@
 -- What an act does to a service, its inbox and its turn, part by part.
-use Rattle.std.proofs.Common.{◌⊎◌, inl, inr, ℕ, ◌≡◌, ◌≢◌, ◌<◌, ◌≤◌, ◌+◌, ◌-◌, Bool, true, false, List, [], ◌∷◌, ◌++◌, length, Option, Some, None, if◌then◌else◌, refl, ap, sym, ◌∙◌, subst, arith, length-append, length-set}
+use Rattle.std.proofs.Common.{◌⊎◌, inl, inr, ◌≡◌, ◌≢◌, ◌<◌, ◌+◌, ◌-◌, true, List, [], ◌∷◌, ◌++◌, length, Option, Some, None, if◌then◌else◌, refl, ap, sym, ◌∙◌, subst, length-append, length-set}
 use Rattle.sk_types.specs.declared.number.Handle.{Handle}
 use Rattle.message.specs.Actors.{Way}
 use Rattle.message.specs.Inboxes.{accepts, added, marked, put, fire, mark, take_first, end}
 use Rattle.message.specs.Registries.{at, set_at}
-use Rattle.message.specs.Steps.{Op, Asks, Takes, Ends, Fires, inbox_does}
-use Rattle.message.specs.Worlds.{World}
+use Rattle.message.specs.Steps.{Asks, Takes, Ends, Fires, inbox_does}
 use Rattle.message.specs.declared.request.Message.{Message}
 use Rattle.message.specs.declared.request.Next.TheVariants.{Idle}
 use Rattle.message.specs.declared.request.Request.TheVariants as ask
@@ -17,11 +16,11 @@ use Rattle.message.specs.declared.place.InboxState.{InboxState}
 use Rattle.message.specs.declared.place.Service.{Service}
 use Rattle.message.specs.declared.place.Service.TheVariants.{Serving, Leaving}
 use Rattle.world_machine.specs.Serving.{IsIdle, IsLeaving}
-use Rattle.call_fates.proofs.Lists.{handle_is, at_is, at_here, at_last, at_set}
+use Rattle.call_fates.proofs.Lists.{at_is, at_here, at_last, at_set}
 use Rattle.schedule_core.specs.declared.spot.Spot.{Spot}
 use Rattle.schedule_core.specs.declared.spot.Spot.TheVariants.{Home, Queued, Hand, Spent}
 use Rattle.schedule_core.specs.Turns.{Turns, ArePlaced, woken, wake, joined}
-use Rattle.schedule_core.specs.Levels.{Levels, IsOver, Waits, IsAway, IsOut, HasWork, CellOk, IsTwo}
+use Rattle.schedule_core.specs.Levels.{Levels, IsOver, IsAway, IsOut, HasWork, CellOk, HasTurns}
 use Rattle.schedule_core.proofs.Lists.{same_or, at_other, at_pushed}
 use Rattle.schedule_core.proofs.Placed.{wake_placed, joined_placed}
 
@@ -217,7 +216,7 @@ pub record Mid {S : Type 0} (way : Way S) (ss : List (Service S)) (is : List Inb
   pub services : length ss ≡ length t.spots
   pub inboxes : length is ≡ length t.spots
 
-pub mid_of : {S : Type 0} (way : Way S) (c : Levels S) → IsTwo way c → Mid way c.world.services c.world.inboxes c.turns
+pub mid_of : {S : Type 0} (way : Way S) (c : Levels S) → HasTurns way c → Mid way c.world.services c.world.inboxes c.turns
 mid_of way c two = record { placed = two.placed; cells = two.cells; services = two.services; inboxes = two.inboxes }
 
 cell_at : {S : Type 0} (way : Way S) (x y : Service S) (i j : InboxState) (p q : Spot) → x ≡ y → i ≡ j → p ≡ q → CellOk way x i p → CellOk way y j q
@@ -378,7 +377,7 @@ cell_spent way x i over ok = record {
   spent = λ e. over;
 }
 
-pub two_with : {S : Type 0} (way : Way S) (c : Levels S) (t2 : Turns) → IsTwo way c → Mid way c.world.services c.world.inboxes t2 → IsTwo way (record { world = c.world; turns = t2 })
+pub two_with : {S : Type 0} (way : Way S) (c : Levels S) (t2 : Turns) → HasTurns way c → Mid way c.world.services c.world.inboxes t2 → HasTurns way (record { world = c.world; turns = t2 })
 two_with way c t2 two mid = record { placed = mid.placed; cells = mid.cells; services = mid.services; inboxes = mid.inboxes; listed = two.listed ∙ (sym two.inboxes ∙ mid.inboxes) }
 
 -- WHERE NOTHING IS TO BE DONE

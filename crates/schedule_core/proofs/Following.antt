@@ -1,12 +1,12 @@
 -- The turns follow an act: what the agent was about to do, and the number of handles, tell which turn is queued.
-use Rattle.std.proofs.Common.{◌⊎◌, inl, inr, ℕ, ◌≡◌, ◌≢◌, ◌<◌, ◌≤◌, ◌+◌, nat_lt, Bool, true, false, List, [], ◌∷◌, ◌++◌, length, Option, Some, None, if◌then◌else◌, refl, ap, sym, ◌∙◌, subst, arith, length-append}
+use Rattle.std.proofs.Common.{inl, inr, ℕ, ◌≡◌, ◌≢◌, ◌<◌, ◌+◌, nat_lt, Bool, true, false, List, [], ◌∷◌, length, Option, Some, None, if◌then◌else◌, refl, ap, sym, ◌∙◌, arith, length-append}
 use Rattle.std.specs.Option.{option_map}
 use Rattle.std.proofs.lemmas.Bool.Decides.{nat_tests}
 use Rattle.message.specs.Messages.{bounce, timer_message}
 use Rattle.message.specs.Actors.{Way}
 use Rattle.message.specs.Registries.{Registry, register, next_handle}
-use Rattle.message.specs.Steps.{Op, Asks, Takes, Ends, Ticks, Fires, Agent, Serves, Times, IsOne, ops, next_ops, bounce_ops, service_ops, due_ops, op_of, place_of}
-use Rattle.message.specs.Worlds.{World, agent, act, grow_by}
+use Rattle.message.specs.Steps.{Op, Asks, Ticks, Fires, Agent, Serves, Times, IsOne, ops, next_ops, bounce_ops, op_of}
+use Rattle.message.specs.Worlds.{World, act}
 use Rattle.sk_types.specs.declared.number.Handle.{Handle}
 use Rattle.message.specs.declared.datum.Datum.{Datum}
 use Rattle.message.specs.declared.request.Dest.TheVariants.{Number}
@@ -16,17 +16,14 @@ use Rattle.message.specs.declared.request.Next.{Next}
 use Rattle.message.specs.declared.request.Next.TheVariants.{Idle, Ask}
 use Rattle.message.specs.declared.record.What.{What}
 use Rattle.message.specs.declared.record.What.TheVariants as did
-use Rattle.message.specs.declared.place.Ending.{Ending}
-use Rattle.message.specs.declared.place.Service.{Service}
 use Rattle.message.specs.declared.place.Service.TheVariants.{Serving, Leaving}
 use Rattle.world_machine.specs.Phases.{op_phase, phase_of, phase}
 use Rattle.world_machine.specs.declared.phase.Phase.{Phase}
-use Rattle.world_machine.specs.declared.phase.Phase.TheVariants as phases
 use Rattle.call_fates.proofs.Lists.{handle_is}
-use Rattle.call_fates.proofs.Inverts.{Acted, acted, Grows, Launches, Registers}
+use Rattle.call_fates.proofs.Inverts.{Acted, acted, Grows, Registers}
 use Rattle.call_fates.proofs.Worlds.{listed_len, launch_listed, registry_given}
-use Rattle.schedule_core.specs.Turns.{Turns, wake, joined, turns_after}
-use Rattle.schedule_core.specs.Levels.{Levels, IsTwo}
+use Rattle.schedule_core.specs.Turns.{Turns, joined, turns_after}
+use Rattle.schedule_core.specs.Levels.{Levels, HasTurns}
 use Rattle.schedule_core.specs.Cores.{followed}
 
 -- the phase is that of what is done
@@ -78,7 +75,7 @@ not_below n m e = grind (arith, nat_tests)
 is_below : (n m : ℕ) → m ≡ n + 1 → nat_lt n m ≡ true
 is_below n m e = grind (arith, nat_tests)
 
-module _ {S : Type 0} (way : Way S) (c : Levels S) (h : Handle) (two : IsTwo way c) where
+module _ {S : Type 0} (way : Way S) (c : Levels S) (h : Handle) (two : HasTurns way c) where
   abbrev w : World S
   w = c.world
 
@@ -130,7 +127,7 @@ module _ {S : Type 0} (way : Way S) (c : Levels S) (h : Handle) (two : IsTwo way
   follows (did.End ms) w2 x = stays (did.End ms) w2 x (λ a b o e. cc)
   follows (did.Tick due) w2 x = stays (did.Tick due) w2 x (λ a b o e. cc)
 
-pub follows_act : {S : Type 0} (way : Way S) (c : Levels S) (h : Handle) (what : What) (w2 : World S) → IsTwo way c → act way c.world h ≡ Some (what, w2)
+pub follows_act : {S : Type 0} (way : Way S) (c : Levels S) (h : Handle) (what : What) (w2 : World S) → HasTurns way c → act way c.world h ≡ Some (what, w2)
     → (p : Option Phase) → p ≡ phase way c.world h → followed p (length c.world.registry.listed) (length w2.registry.listed) c.turns ≡ turns_after c.turns what
 follows_act way c h what w2 two e p is =
     let x = acted way c.world h (what, w2) e in

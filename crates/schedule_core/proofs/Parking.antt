@@ -1,11 +1,11 @@
 -- What is done with a turn that is put back.
-use Rattle.std.proofs.Common.{◌⊎◌, inl, inr, ℕ, ◌≡◌, ◌≢◌, ◌<◌, ◌==◌, Bool, true, false, List, [], ◌∷◌, Option, Some, None, slice_get, refl, ap, sym, ◌∙◌, subst, arith}
+use Rattle.std.proofs.Common.{ℕ, ◌≡◌, ◌≢◌, ◌<◌, ◌==◌, Bool, true, false, List, [], ◌∷◌, Option, Some, None, slice_get, refl, ap, sym, ◌∙◌, subst, arith}
 use Rattle.std.specs.Option.{option_map}
 use Rattle.std.proofs.lemmas.Bool.Decides.{nat_tests}
 use Rattle.message.specs.Actors.{Way}
 use Rattle.message.specs.Registries.{at}
-use Rattle.message.specs.Steps.{Op, Asks, Agent, ops, next_ops, bounce_ops, service_ops}
-use Rattle.message.specs.Worlds.{World, agent, agent_or_clock, serves}
+use Rattle.message.specs.Steps.{Asks, ops, next_ops, bounce_ops, service_ops}
+use Rattle.message.specs.Worlds.{World, agent_or_clock, serves}
 use Rattle.sk_types.specs.declared.number.Handle.{Handle}
 use Rattle.message.specs.declared.request.Held.{Held}
 use Rattle.message.specs.declared.request.Message.{Message}
@@ -21,13 +21,12 @@ use Rattle.message.specs.declared.place.Service.{Service}
 use Rattle.message.specs.declared.place.Service.TheVariants.{Serving, Leaving}
 use Rattle.world_machine.specs.Serving.{IsIdle}
 use Rattle.world_machine.specs.Phases.{op_phase, phase_of, phase}
-use Rattle.world_machine.specs.declared.phase.Phase.{Phase}
 use Rattle.world_machine.specs.declared.phase.Phase.TheVariants as phases
 use Rattle.schedule_core.specs.declared.spot.Spot.TheVariants.{Home, Spent}
 use Rattle.schedule_core.specs.declared.spot.Rest.{Rest}
 use Rattle.schedule_core.specs.declared.spot.Rest.TheVariants as rest
 use Rattle.schedule_core.specs.Turns.{Turns, laid}
-use Rattle.schedule_core.specs.Steps.{ParksAt, ParksBy, IsPark, IsRequeue}
+use Rattle.schedule_core.specs.Steps.{ParksAt, ParksBy, IsPark}
 use Rattle.schedule_core.specs.Cores.{rests, parked_by, parked}
 use Rattle.schedule_core.proofs.Cells.{some_is}
 

@@ -6,7 +6,7 @@ use Rattle.message.specs.Registries.{at, set_at}
 use Rattle.call_fates.proofs.Lists.{handle_is, at_is, at_here, at_last, at_within}
 use Rattle.schedule_core.specs.declared.spot.Spot.{Spot}
 use Rattle.schedule_core.specs.declared.spot.Spot.TheVariants.{Home, Queued, Hand, Spent}
-use Rattle.schedule_core.specs.Turns.{Turns, one_if, queued, handed, in_queue, in_hand, ArePlaced, AreEmpty, AreOpening, Rests, laid, sent_last, is_home, woken, wake, joined, IsFetch, first_turns}
+use Rattle.schedule_core.specs.Turns.{Turns, queued, handed, in_queue, in_hand, ArePlaced, AreEmpty, AreOpening, Rests, laid, sent_last, is_home, woken, wake, joined, IsFetch, first_turns}
 use Rattle.schedule_core.specs.Laws.{AreApart}
 use Rattle.schedule_core.proofs.Lists.{same_or, get_other, get_same, at_other, at_pushed, at_nothing, at_past}
 use Rattle.schedule_core.proofs.Counts.{one_same, one_other, queued_first, queued_last, hand_set, hand_has, none_handed, spot_queued, spot_in_hand, in_hand_once}

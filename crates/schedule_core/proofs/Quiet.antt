@@ -1,17 +1,16 @@
 -- Where no turn is queued or in a hand and the clock has nothing to do, nobody has.
-use Rattle.std.proofs.Common.{◌⊎◌, inl, inr, ℕ, ◌≡◌, ◌≢◌, ◌<◌, ◌≤◌, ◌+◌, ◌==◌, nat_lt, Bool, true, false, List, [], ◌∷◌, length, Option, Some, None, if◌then◌else◌, refl, ap, sym, ◌∙◌, subst, arith}
+use Rattle.std.proofs.Common.{◌⊎◌, inl, inr, ◌≡◌, ◌≢◌, ◌<◌, ◌+◌, ◌==◌, nat_lt, Bool, true, false, List, [], ◌∷◌, length, Option, Some, None, if◌then◌else◌, refl, ap, sym, ◌∙◌, arith}
 use Rattle.std.proofs.lemmas.Bool.Decides.{nat_tests}
 use Rattle.message.specs.Messages.{timer_message}
 use Rattle.message.specs.Actors.{Way}
 use Rattle.message.specs.Inboxes.{take_first, end, fire}
 use Rattle.message.specs.Registries.{at}
-use Rattle.message.specs.Clocks.{Clock, tick, ticked, due_at, last_tick}
-use Rattle.message.specs.Steps.{Op, Takes, Ends, Ticks, Fires, Agent, Serves, Times, ops, next_ops, bounce_ops, due_ops, AtInbox, AtClock, with_state}
+use Rattle.message.specs.Clocks.{tick, ticked, due_at, last_tick}
+use Rattle.message.specs.Steps.{Takes, Ends, Ticks, Fires, Serves, Times, next_ops, bounce_ops, due_ops, AtInbox, AtClock, with_state}
 use Rattle.message.specs.Worlds.{World, agent, agent_or_clock, serves, act, inbox_state, answer_at}
 use Rattle.message.proofs.Acts.{act_first, act_neither, act_nothing, act_nobody}
 use Rattle.sk_types.specs.declared.number.Handle.{Handle}
 use Rattle.sk_types.specs.declared.number.Session.{Session}
-use Rattle.message.specs.declared.record.What.{What}
 use Rattle.message.specs.declared.record.What.TheVariants as did
 use Rattle.message.specs.declared.place.Timer.{Timer}
 use Rattle.message.specs.declared.place.InboxStatus.TheVariants.{Live}
@@ -21,11 +20,11 @@ use Rattle.message.specs.declared.place.Service.TheVariants.{Serving, Leaving}
 use Rattle.world_machine.specs.Serving.{IsIdle}
 use Rattle.world_machine.specs.Launching.{clock_agent}
 use Rattle.world_machine.proofs.Asking.{agent_serves}
-use Rattle.call_fates.proofs.Lists.{handle_is, at_is, at_some}
+use Rattle.call_fates.proofs.Lists.{handle_is, at_some}
 use Rattle.schedule_core.specs.declared.spot.Spot.{Spot}
 use Rattle.schedule_core.specs.declared.spot.Spot.TheVariants.{Home, Queued, Hand, Spent}
-use Rattle.schedule_core.specs.Turns.{queued, handed, in_queue, in_hand}
-use Rattle.schedule_core.specs.Levels.{Levels, IsOver, CellOk, IsTwo, HasTimers, DueIn}
+use Rattle.schedule_core.specs.Turns.{queued, in_queue, in_hand}
+use Rattle.schedule_core.specs.Levels.{Levels, IsOver, CellOk, HasTurns, HasTimers, DueIn}
 use Rattle.schedule_core.specs.Laws.{IsQuiet, QuietIsDrained}
 use Rattle.schedule_core.proofs.Lists.{at_both, at_neither}
 use Rattle.schedule_core.proofs.Counts.{none_handed}
@@ -46,7 +45,7 @@ over_rests way w h (Leaving e) there over = act_nothing way w h (Serves (Leaving
 some_none : {X : Type 0} (x : X) → Some x ≢ None
 some_none x e = cc
 
-module _ {S : Type 0} (way : Way S) (c : Levels S) (two : IsTwo way c) (timers : HasTimers c.world) (quiet : IsQuiet way c) where
+module _ {S : Type 0} (way : Way S) (c : Levels S) (two : HasTurns way c) (timers : HasTimers c.world) (quiet : IsQuiet way c) where
   abbrev w : World S
   w = c.world
 
@@ -112,4 +111,4 @@ module _ {S : Type 0} (way : Way S) (c : Levels S) (two : IsTwo way c) (timers :
     by (inr early) = ticks early w.clock.timers refl
 
 pub quiet_drained : {S : Type 0} (way : Way S) → QuietIsDrained way
-quiet_drained way c two timers quiet = record { still = still way c two timers quiet; timers = none_wait way c two timers quiet; due = none_due way c two timers quiet }
+quiet_drained way c two quiet = record { still = still way c two.turns two.timers quiet; timers = none_wait way c two.turns two.timers quiet; due = none_due way c two.turns two.timers quiet }

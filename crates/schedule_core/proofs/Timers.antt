@@ -1,16 +1,15 @@
 -- Each timer is that of a handle that was given.
-use Rattle.std.proofs.Common.{◌⊎◌, inl, inr, ℕ, ◌≡◌, ◌≢◌, ◌<◌, ◌≤◌, ◌+◌, ◌-◌, ◌==◌, nat_lt, nat_le, Bool, true, false, not, cond, List, [], ◌∷◌, ◌++◌, map, length, Option, Some, None, if◌then◌else◌, refl, ap, sym, ◌∙◌, subst, arith, length-append, length-set}
+use Rattle.std.proofs.Common.{inl, inr, ℕ, ◌≡◌, ◌≢◌, ◌≤◌, ◌+◌, ◌-◌, ◌==◌, nat_lt, nat_le, Bool, true, false, not, cond, List, [], ◌∷◌, ◌++◌, map, length, Option, Some, None, if◌then◌else◌, refl, ap, sym, ◌∙◌, subst, arith, length-append, length-set}
 use Rattle.std.specs.List.{filter}
 use Rattle.message.specs.Messages.{init_message, timer_message}
 use Rattle.message.specs.Actors.{Way}
-use Rattle.message.specs.Registries.{at, set_at}
-use Rattle.message.specs.Clocks.{Clock, add, tick, ticked, due_at, later_than, last_tick}
-use Rattle.message.specs.Steps.{Op, Asks, Takes, Ends, Ticks, Fires, Agent, Serves, Times, IsOne, ops, due_ops, op_of, place_of, agent_after, due_after, PlaceState, AtRegistry, AtInbox, AtClock, registry_does, inbox_does, clock_does, does}
-use Rattle.message.specs.Worlds.{World, agent, agent_or_clock, serves, place, inbox_state, set_place, set_agent, grow, grow_by, left_by, act}
+use Rattle.message.specs.Registries.{at}
+use Rattle.message.specs.Clocks.{Clock, add, tick, ticked, due_at, last_tick}
+use Rattle.message.specs.Steps.{Op, Asks, Takes, Ends, Ticks, Fires, Agent, Serves, Times, IsOne, ops, op_of, place_of, agent_after, due_after, PlaceState, AtRegistry, AtInbox, AtClock, registry_does, inbox_does, clock_does, does}
+use Rattle.message.specs.Worlds.{World, agent, agent_or_clock, place, inbox_state, set_place, set_agent, grow, grow_by, act}
 use Rattle.message.proofs.Acts.{IsAct, act_inv}
 use Rattle.sk_types.specs.declared.number.Handle.{Handle}
 use Rattle.sk_types.specs.declared.number.Session.{Session}
-use Rattle.message.specs.declared.datum.Datum.{Datum}
 use Rattle.message.specs.declared.request.Message.{Message}
 use Rattle.message.specs.declared.request.Request.TheVariants as ask
 use Rattle.message.specs.declared.record.What.{What}

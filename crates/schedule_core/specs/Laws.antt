@@ -13,7 +13,7 @@ use Rattle.call_fates.specs.Reached.{IsOpening}
 use Rattle.call_fates.specs.Drained.{HasRest}
 use Rattle.schedule_core.specs.declared.action.Action.{Action}
 use Rattle.schedule_core.specs.Turns.{Turns, AreEmpty, AreOpening}
-use Rattle.schedule_core.specs.Levels.{Levels, IsTwo, HasTimers}
+use Rattle.schedule_core.specs.Levels.{Levels, IsTwo}
 use Rattle.schedule_core.specs.Steps.{Runs}
 
 -- no two hands have one service
@@ -27,7 +27,6 @@ pub record IsRun {S : Type 0} (way : Way S) (c : Levels S) (who : List Handle) (
   -- the world is that of the one-thread machine after these agents acted
   pub same : after way who c.world ≡ Some c2.world
   pub apart : AreApart c2.turns
-  pub timers : HasTimers c.world → HasTimers c2.world
 
 -- of every list of steps of every number of workers, from every state in which the two levels fit
 abbrev pub StepsKeepTwo : {S : Type 0} → Way S → Type 0
@@ -42,7 +41,7 @@ pub record IsQuiet {S : Type 0} (way : Way S) (c : Levels S) : Type 0 where
 
 -- then there is nothing to do for anyone
 abbrev pub QuietIsDrained : {S : Type 0} → Way S → Type 0
-QuietIsDrained {S} way = (c : Levels S) → IsTwo way c → HasTimers c.world → IsQuiet way c → IsDrained way c.world
+QuietIsDrained {S} way = (c : Levels S) → IsTwo way c → IsQuiet way c → IsDrained way c.world
 
 -- A CALL, WHATEVER THE ORDER OF THE STEPS
 

@@ -70,9 +70,9 @@ pub record CellOk {S : Type 0} (way : Way S) (x : Service S) (i : InboxState) (s
   -- a spent turn's service is over
   pub spent : spot ≡ Spent → IsOver x
 
--- The two levels fit: each handle that was given has a service, an inbox and a turn; each turn is in one place, once; and where it is
--- fits what its service and its inbox are.
-pub record IsTwo {S : Type 0} (way : Way S) (c : Levels S) : Type 0 where
+-- Each handle that was given has a service, an inbox and a turn; each turn is in one place, once; and where it is fits what its
+-- service and its inbox are.
+pub record HasTurns {S : Type 0} (way : Way S) (c : Levels S) : Type 0 where
   pub placed : ArePlaced c.turns
   pub cells : (h : Handle) (x : Service S) (i : InboxState) (spot : Spot)
       → at c.world.services h.0 ≡ Some x → at c.world.inboxes h.0 ≡ Some i → at c.turns.spots h.0 ≡ Some spot → CellOk way x i spot
@@ -98,6 +98,13 @@ DueIn n (d ∷ ds) = Within n d.0 × DueIn n ds
 pub record HasTimers {S : Type 0} (w : World S) : Type 0 where
   pub waiting : TimersIn (length w.inboxes) w.clock.timers
   pub due : DueIn (length w.inboxes) w.due
+
+-- THE TWO LEVELS
+
+-- the two levels fit: each service has its turn where it fits, and each timer is that of a handle that was given
+pub record IsTwo {S : Type 0} (way : Way S) (c : Levels S) : Type 0 where
+  pub turns : HasTurns way c
+  pub timers : HasTimers c.world
 
 -- THE MEANINGS
 

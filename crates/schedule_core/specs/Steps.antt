@@ -1,9 +1,9 @@
 -- The steps of workers (thread_worker in skynet_start.c, skynet_context_message_dispatch in skynet_server.c), and runs of them in any
 -- order.
-use Rattle.std.specs.Prelude.{ℕ, ◌≡◌, ◌≢◌, ◌⊎◌, List, [], ◌∷◌, ◌++◌, Option, Some, None, slice_get, slice_set}
+use Rattle.std.specs.Prelude.{ℕ, ◌≡◌, ◌≢◌, ◌⊎◌, List, [], ◌∷◌, ◌++◌, Some, None, slice_get}
 use Rattle.sk_types.specs.declared.number.Handle.{Handle}
 use Rattle.message.specs.Actors.{Way}
-use Rattle.message.specs.Registries.{at, set_at}
+use Rattle.message.specs.Registries.{at}
 use Rattle.message.specs.Worlds.{World, act}
 use Rattle.message.specs.declared.request.Message.{Message}
 use Rattle.message.specs.declared.request.Next.TheVariants.{Idle}
@@ -16,7 +16,7 @@ use Rattle.message.specs.declared.place.Service.{Service}
 use Rattle.message.specs.declared.place.Service.TheVariants.{Serving, Leaving}
 use Rattle.world_machine.specs.Serving.{IsIdle}
 use Rattle.world_machine.specs.Launching.{clock_agent}
-use Rattle.schedule_core.specs.declared.spot.Spot.TheVariants.{Home, Queued, Spent}
+use Rattle.schedule_core.specs.declared.spot.Spot.TheVariants.{Home, Spent}
 use Rattle.schedule_core.specs.declared.action.Action.{Action}
 use Rattle.schedule_core.specs.declared.action.Action.TheVariants as does
 use Rattle.schedule_core.specs.Turns.{Turns, laid, sent_last, turns_after, IsFetch}

@@ -30,8 +30,8 @@ impl<A: Actor + Drop> Model for Core<A> {
     ghost use Rattle.message.specs.Registries.{registry_code};
     ghost use Rattle.message.specs.contracts.datum.Datum as datum_contract;
     ghost use Rattle.std.specs.Coded.{codes};
-    ghost use Rattle.schedule_core.specs.Levels.{levels_over};
-    ghost use Rattle.schedule_core.specs.Cores.{Scheduled, IsFit};
+    ghost use Rattle.schedule_core.specs.Levels.{levels_over, IsTwo};
+    ghost use Rattle.schedule_core.specs.Cores.{Scheduled};
 
     ghost Value = { Scheduled A };
 
@@ -39,7 +39,7 @@ impl<A: Actor + Drop> Model for Core<A> {
 
     ghost view = { λ c. record { run = c.world; turns = c.turns.turns } };
 
-    ghost invariant = { λ c. OnFalse c.world.spent (IsFit A.way (levels_over A.meaning c.world.world c.turns.turns)) };
+    ghost invariant = { λ c. OnFalse c.world.spent (IsTwo A.way (levels_over A.meaning c.world.world c.turns.turns)) };
 }
 
 impl<A: Actor + Drop> Core<A> {

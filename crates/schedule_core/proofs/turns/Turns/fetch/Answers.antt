@@ -1,7 +1,6 @@
-use Rattle.std.proofs.Common.{◌≡◌, ◌<◌, ◌+◌, Some, None, length, slice_get, refl, ap, sym, ◌∙◌, subst, arith}
+use Rattle.std.proofs.Common.{◌≡◌, Some, None, slice_get, refl, arith}
 use Rattle.schedule_core.proofs.Lists.{got_here}
 use Rattle.schedule_core.proofs.Placed.{queue_fits, fetch_placed}
-use Rattle.schedule_core.specs.Turns.{IsFetch}
 use Rattle.schedule_core.proofs.turns.Turns.fetch.Goals as goal
 
 pub overflow_sub-own : goal.overflow_sub-own

@@ -1,4 +1,4 @@
-use Rattle.std.proofs.Common.{◌≡◌, ◌<◌, ◌+◌, Some, None, length, slice_get, refl, ap, sym, ◌∙◌, subst, arith}
+use Rattle.std.proofs.Common.{◌≡◌, ◌+◌, length, ap, sym, ◌∙◌}
 use Rattle.schedule_core.specs.Cores.{TurnBook}
 use Rattle.schedule_core.proofs.Placed.{joined_placed}
 use Rattle.schedule_core.proofs.turns.Turns.join.Goals as goal

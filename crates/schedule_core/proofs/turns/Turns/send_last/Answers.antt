@@ -1,6 +1,6 @@
-use Rattle.std.proofs.Common.{◌≡◌, ◌<◌, ◌+◌, Some, None, length, slice_get, refl, ap, sym, ◌∙◌, subst, arith}
+use Rattle.std.proofs.Common.{◌≡◌, Some, slice_get, ap, ◌∙◌, arith}
 use Rattle.schedule_core.specs.Cores.{TurnBook}
-use Rattle.schedule_core.proofs.Placed.{hand_fits, laid_placed, sent_placed}
+use Rattle.schedule_core.proofs.Placed.{hand_fits, sent_placed}
 use Rattle.schedule_core.proofs.turns.Turns.send_last.Goals as goal
 
 pub overflow_sub-own : goal.overflow_sub-own

@@ -1,4 +1,4 @@
-use Rattle.std.proofs.Common.{◌≡◌, List, Some, ap, sym, ◌∙◌, subst}
+use Rattle.std.proofs.Common.{◌≡◌, List, Some, ap, ◌∙◌}
 use Rattle.message.specs.Registries.{at}
 use Rattle.schedule_core.specs.declared.spot.Spot.TheVariants.{Home}
 use Rattle.schedule_core.proofs.Placed.{home_there, woken_placed}

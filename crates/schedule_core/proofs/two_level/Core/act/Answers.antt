@@ -9,7 +9,7 @@ pub moves-requires-clause-may : goal.moves-requires-clause-may
 moves-requires-clause-may g c =
     let whole : c.self.inside.world.spent ≡ false = ap (λ (s : Scheduled g.row.A.Denot). s.run.spent) c.self.view_is ∙ c.requires in
     let fit = OnFalse_at whole c.self.invariant in
-    rw (← c.self.view_is) (inr (held_is c.self.inside.turns.turns c.args.worker c.in-Some.own fit.two.placed c.in-Some.ensures.some))
+    rw (← c.self.view_is) (inr (held_is c.self.inside.turns.turns c.args.worker c.in-Some.own fit.turns.placed c.in-Some.ensures.some))
 
 pub returns-in-Some-clause-done : goal.returns-in-Some-clause-done
 returns-in-Some-clause-done g c =

@@ -1,4 +1,4 @@
-use Rattle.std.proofs.Common.{◌≡◌, false, [], ap, sym, ◌∙◌, refl}
+use Rattle.std.proofs.Common.{◌≡◌, false, [], ap, ◌∙◌, refl}
 use Rattle.std.proofs.lemmas.Bool.{OnFalse_at}
 use Rattle.message.specs.Worlds.{over}
 use Rattle.schedule_core.specs.Cores.{Scheduled}
@@ -15,7 +15,7 @@ invariant_of-self-2 g c =
     let fit = OnFalse_at whole c.self.invariant in
     let idle = c.is_idle.ensures.0 c.if-not-is_idle.false in
     let waits : w.turns.turns.queue ≡ [] → ⊥ = λ e. both_not c.is_queue_empty.result (c.is_queue_empty.ensures.1 e) c.if-is_queue_empty.false in
-    let x = exchanges_by way (over f w.world.world) w.turns.turns c.reserve.new.self.turns c.exchange.new.self.turns c.args.worker c.in-Some.own c.phase.result fit.two.placed c.in-Some.ensures.some c.phase.ensures idle waits c.in_ok-reserve.ensures.same c.exchange.ensures in
+    let x = exchanges_by way (over f w.world.world) w.turns.turns c.reserve.new.self.turns c.exchange.new.self.turns c.args.worker c.in-Some.own c.phase.result fit.turns.placed c.in-Some.ensures.some c.phase.ensures idle waits c.in_ok-reserve.ensures.same c.exchange.ensures in
     fit_exchanged way (over f w.world.world) w.turns.turns c.exchange.new.self.turns c.args.worker w.world.spent c.self.invariant x
 
 pub returns-clause-done : goal.returns-clause-done
@@ -27,5 +27,5 @@ returns-clause-done g c =
     let fit = OnFalse_at whole c.self.invariant in
     let idle = c.is_idle.ensures.0 c.if-not-is_idle.false in
     let waits : w.turns.turns.queue ≡ [] → ⊥ = λ e. both_not c.is_queue_empty.result (c.is_queue_empty.ensures.1 e) c.if-is_queue_empty.false in
-    let x = exchanges_by way (over f w.world.world) w.turns.turns c.reserve.new.self.turns c.exchange.new.self.turns c.args.worker c.in-Some.own c.phase.result fit.two.placed c.in-Some.ensures.some c.phase.ensures idle waits c.in_ok-reserve.ensures.same c.exchange.ensures in
-    rw (← c.self.view_is) ([], (x.0, x.1, refl, refl, x.2))
+    let x = exchanges_by way (over f w.world.world) w.turns.turns c.reserve.new.self.turns c.exchange.new.self.turns c.args.worker c.in-Some.own c.phase.result fit.turns.placed c.in-Some.ensures.some c.phase.ensures idle waits c.in_ok-reserve.ensures.same c.exchange.ensures in
+    rw (← c.self.view_is) ([], (x.0, x.1, refl, refl, x.2), refl)

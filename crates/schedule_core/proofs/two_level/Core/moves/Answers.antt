@@ -1,4 +1,4 @@
-use Rattle.std.proofs.Common.{◌≡◌, true, false, ap, sym, ◌∙◌, subst}
+use Rattle.std.proofs.Common.{◌≡◌, false, ap, sym, ◌∙◌, subst}
 use Rattle.std.proofs.lemmas.Bool.{OnFalse_at}
 use Rattle.schedule_core.specs.Cores.{Scheduled, MayAct}
 use Rattle.schedule_core.proofs.Stepping.{follows_so, followed_with, fit_gone_on}

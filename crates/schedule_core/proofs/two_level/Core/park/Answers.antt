@@ -15,7 +15,7 @@ invariant_of-self g c =
     let w = c.self.inside in
     let whole : w.world.spent ≡ false = ap (λ (s : Scheduled g.row.A.Denot). s.run.spent) c.self.view_is ∙ c.requires in
     let fit = OnFalse_at whole c.self.invariant in
-    let says = park_says way (over f w.world.world) w.turns.turns c.args.worker c.in-Some.own c.phase.result (option_copied c.inbox.result) c.parked.result fit.two.placed c.in-Some.ensures.some c.phase.ensures c.inbox.ensures c.parked.ensures in
+    let says = park_says way (over f w.world.world) w.turns.turns c.args.worker c.in-Some.own c.phase.result (option_copied c.inbox.result) c.parked.result fit.turns.placed c.in-Some.ensures.some c.phase.ensures c.inbox.ensures c.parked.ensures in
     let there = subst (Parking way w.turns.turns c.args.worker c.in-Some.own (over f w.world.world)) (c.in-Some-Home.is ∙ ap Some c.in-Some-Home.field-0-is) says in
     fit_parked way (over f w.world.world) w.turns.turns c.lay.new.self.turns c.args.worker c.in-Some.own w.world.spent c.self.invariant (subst (IsPark way (over f w.world.world) w.turns.turns c.args.worker c.in-Some.own) (sym c.lay.ensures) there)
 
@@ -26,9 +26,9 @@ returns-in-Some-Home-clause-done g c =
     let w = c.self.inside in
     let whole : w.world.spent ≡ false = ap (λ (s : Scheduled g.row.A.Denot). s.run.spent) c.self.view_is ∙ c.requires in
     let fit = OnFalse_at whole c.self.invariant in
-    let says = park_says way (over f w.world.world) w.turns.turns c.args.worker c.in-Some.own c.phase.result (option_copied c.inbox.result) c.parked.result fit.two.placed c.in-Some.ensures.some c.phase.ensures c.inbox.ensures c.parked.ensures in
+    let says = park_says way (over f w.world.world) w.turns.turns c.args.worker c.in-Some.own c.phase.result (option_copied c.inbox.result) c.parked.result fit.turns.placed c.in-Some.ensures.some c.phase.ensures c.inbox.ensures c.parked.ensures in
     let there = subst (Parking way w.turns.turns c.args.worker c.in-Some.own (over f w.world.world)) (c.in-Some-Home.is ∙ ap Some c.in-Some-Home.field-0-is) says in
-    rw (← c.self.view_is) ([], (c.in-Some.own, refl, refl, subst (IsPark way (over f w.world.world) w.turns.turns c.args.worker c.in-Some.own) (sym c.lay.ensures) there))
+    rw (← c.self.view_is) ([], (c.in-Some.own, refl, refl, subst (IsPark way (over f w.world.world) w.turns.turns c.args.worker c.in-Some.own) (sym c.lay.ensures) there), refl)
 
 pub invariant_of-self-in-Some-Spent : goal.invariant_of-self-in-Some-Spent
 invariant_of-self-in-Some-Spent g c =
@@ -37,7 +37,7 @@ invariant_of-self-in-Some-Spent g c =
     let w = c.self.inside in
     let whole : w.world.spent ≡ false = ap (λ (s : Scheduled g.row.A.Denot). s.run.spent) c.self.view_is ∙ c.requires in
     let fit = OnFalse_at whole c.self.invariant in
-    let says = park_says way (over f w.world.world) w.turns.turns c.args.worker c.in-Some.own c.phase.result (option_copied c.inbox.result) c.parked.result fit.two.placed c.in-Some.ensures.some c.phase.ensures c.inbox.ensures c.parked.ensures in
+    let says = park_says way (over f w.world.world) w.turns.turns c.args.worker c.in-Some.own c.phase.result (option_copied c.inbox.result) c.parked.result fit.turns.placed c.in-Some.ensures.some c.phase.ensures c.inbox.ensures c.parked.ensures in
     let there = subst (Parking way w.turns.turns c.args.worker c.in-Some.own (over f w.world.world)) (c.in-Some-Spent.is ∙ ap Some c.in-Some-Spent.field-0-is) says in
     fit_parked way (over f w.world.world) w.turns.turns c.lay-in-Some-Spent.new.self.turns c.args.worker c.in-Some.own w.world.spent c.self.invariant (subst (IsPark way (over f w.world.world) w.turns.turns c.args.worker c.in-Some.own) (sym c.lay-in-Some-Spent.ensures) there)
 
@@ -48,9 +48,9 @@ returns-in-Some-Spent-clause-done g c =
     let w = c.self.inside in
     let whole : w.world.spent ≡ false = ap (λ (s : Scheduled g.row.A.Denot). s.run.spent) c.self.view_is ∙ c.requires in
     let fit = OnFalse_at whole c.self.invariant in
-    let says = park_says way (over f w.world.world) w.turns.turns c.args.worker c.in-Some.own c.phase.result (option_copied c.inbox.result) c.parked.result fit.two.placed c.in-Some.ensures.some c.phase.ensures c.inbox.ensures c.parked.ensures in
+    let says = park_says way (over f w.world.world) w.turns.turns c.args.worker c.in-Some.own c.phase.result (option_copied c.inbox.result) c.parked.result fit.turns.placed c.in-Some.ensures.some c.phase.ensures c.inbox.ensures c.parked.ensures in
     let there = subst (Parking way w.turns.turns c.args.worker c.in-Some.own (over f w.world.world)) (c.in-Some-Spent.is ∙ ap Some c.in-Some-Spent.field-0-is) says in
-    rw (← c.self.view_is) ([], (c.in-Some.own, refl, refl, subst (IsPark way (over f w.world.world) w.turns.turns c.args.worker c.in-Some.own) (sym c.lay-in-Some-Spent.ensures) there))
+    rw (← c.self.view_is) ([], (c.in-Some.own, refl, refl, subst (IsPark way (over f w.world.world) w.turns.turns c.args.worker c.in-Some.own) (sym c.lay-in-Some-Spent.ensures) there), refl)
 
 pub returns-in-Some-Hand-clause-done : goal.returns-in-Some-Hand-clause-done
 returns-in-Some-Hand-clause-done g c =
@@ -59,6 +59,6 @@ returns-in-Some-Hand-clause-done g c =
     let w = c.self.inside in
     let whole : w.world.spent ≡ false = ap (λ (s : Scheduled g.row.A.Denot). s.run.spent) c.self.view_is ∙ c.requires in
     let fit = OnFalse_at whole c.self.invariant in
-    let says = park_says way (over f w.world.world) w.turns.turns c.args.worker c.in-Some.own c.phase.result (option_copied c.inbox.result) c.parked.result fit.two.placed c.in-Some.ensures.some c.phase.ensures c.inbox.ensures c.parked.ensures in
+    let says = park_says way (over f w.world.world) w.turns.turns c.args.worker c.in-Some.own c.phase.result (option_copied c.inbox.result) c.parked.result fit.turns.placed c.in-Some.ensures.some c.phase.ensures c.inbox.ensures c.parked.ensures in
     let there = subst (Parking way w.turns.turns c.args.worker c.in-Some.own (over f w.world.world)) (c.in-Some-Hand.is ∙ ap Some c.in-Some-Hand.field-0-is) says in
-    rw (← c.self.view_is) ([], (c.in-Some.own, refl, refl, there))
+    rw (← c.self.view_is) ([], (c.in-Some.own, refl, refl, there), refl)
